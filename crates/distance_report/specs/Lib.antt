@@ -1,0 +1,2 @@
+pub mod Berths
+pub mod Lines

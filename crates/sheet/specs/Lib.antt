@@ -1,0 +1,4 @@
+pub mod Rules
+pub mod Reading
+pub mod Rows
+pub mod Says

@@ -1,0 +1,4 @@
+pub mod Text
+pub mod Shapes
+pub mod Stages
+pub mod Tokens

@@ -1,0 +1,11 @@
+pub mod Leasts
+pub mod Entries
+pub mod Laying
+pub mod Ways
+pub mod Rows
+pub mod Relaxing
+pub mod Existence
+pub mod Simple
+pub mod Lawful
+pub mod Reading
+pub mod Standing
