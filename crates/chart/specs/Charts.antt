@@ -9,6 +9,7 @@ use Rattle.std.specs.declared.result.Result.the-variants.{Ok, Err}
 use Rattle.faults.specs.declared.fault.Fault.{Fault}
 use Rattle.walks.specs.declared.edge.Edge.{Edge}
 use Rattle.walks.specs.Walks.{IsBerth, Least}
+use Rattle.walks.specs.Tables.{lengthBetween}
 use Rattle.sheet.specs.Says.{Admits, Rejects}
 use Rattle.chart.specs.Edges.{edge-rules, numbersOf}
 
@@ -24,3 +25,9 @@ pub record ChartLaws (es : List Edge) : Type 0 where
   pub detour : (x y z a b : ℕ) → Least es x y (Some a) → Least es y z (Some b) → (c : ℕ) × Least es x z (Some c) × (c ≤ a + b)
   pub one : (x y : ℕ) (c d : Option ℕ) → Least es x y c → Least es x y d → c ≡ d
   pub far : (x y m : ℕ) → Least es x y (Some m) → m ≤ 18600
+
+-- the answer r of a finished chart, with the edges es and the table t of least lengths, for the way from x to y: what the table has, which is the distance; and the distances obey the laws
+pub record Answers (es : List Edge) (t : List (Option ℕ)) (x y : ℕ) (r : Option ℕ) : Type 0 where
+  pub value : r ≡ lengthBetween t x y
+  pub least : ∥ Least es x y r ∥₁
+  pub laws : ChartLaws es

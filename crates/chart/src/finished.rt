@@ -4,10 +4,9 @@ ghost use mathlib.Core.Bool.{true};
 ghost use Prim.Native.Nat.{_≤_};
 ghost use Rattle.std.specs.Of.Vec.{vec-items, vec-cap};
 ghost use Rattle.std.specs.shelf.Lawful.{all-pass};
-ghost use Rattle.walks.specs.Walks.{Least};
-ghost use Rattle.walks.specs.Tables.{TableOf, lengthBetween};
+ghost use Rattle.walks.specs.Tables.{TableOf};
 ghost use Rattle.chart.specs.Edges.{isLawful};
-ghost use Rattle.chart.specs.Charts.{ChartLaws};
+ghost use Rattle.chart.specs.Charts.{Answers};
 use crate::drawn::DrawnChart;
 use walks::Edge;
 use walks::LengthTable;
@@ -24,14 +23,23 @@ pub struct FinishedChart {
     ghost closed: { ∥ TableOf (vec-items edges) (lengths .lengths) ∥₁ },
 }
 
+/// A finished chart with these edges.
+fn finish(edges: Vec<Edge>) -> FinishedChart
+    requires room { ⌜ 200 ≤ vec-cap edges ⌝ }
+    requires lawful { ⌜ all-pass isLawful (vec-items edges) ≡ true ⌝ }
+    ensures { λ r. ⌜ r .edges ≡ edges ⌝ }
+{
+    let lengths = least_lengths(edges.as_slice());
+    FinishedChart { edges, lengths }
+}
+
 impl DrawnChart {
     /// Finishes the chart.
     pub fn close(self) -> FinishedChart
         ensures { λ r. ⌜ r .edges ≡ self .edges ⌝ }
     {
         let DrawnChart { edges } = self;
-        let lengths = least_lengths(edges.as_slice());
-        FinishedChart { edges, lengths }
+        finish(edges)
     }
 }
 
@@ -43,17 +51,22 @@ impl FinishedChart {
         self.edges.as_slice()
     }
 
-    /// The distance in minutes: the least total length over all walks along edges, or None where
-    /// there is no walk, as for a number that is no berth.
-    pub fn distance(&self, from: u8, to: u8) -> Option<u32>
-        ensures value { λ r. ⌜ r ≡ lengthBetween (now (self .entry) .lengths .lengths) from to ⌝ }
-        ensures least { λ r. ⌜ ∥ Least (vec-items (now (self .entry) .edges)) from to r ∥₁ ⌝ }
-        ensures laws { λ _. ⌜ ChartLaws (vec-items (now (self .entry) .edges)) ⌝ }
+    /// What the chart's table has for two berths.
+    fn minutes_between(&self, from: u8, to: u8) -> Option<u32>
+        ensures { λ r. ⌜ Answers (vec-items (now (self .entry) .edges)) (now (self .entry) .lengths .lengths) from to r ⌝ }
     {
         match self.lengths.between(from, to) {
             Some(minutes) => Some(minutes as u32),
             None => None,
         }
+    }
+
+    /// The distance in minutes: the least total length over all walks along edges, or None where
+    /// there is no walk, as for a number that is no berth.
+    pub fn distance(&self, from: u8, to: u8) -> Option<u32>
+        ensures { λ r. ⌜ Answers (vec-items (now (self .entry) .edges)) (now (self .entry) .lengths .lengths) from to r ⌝ }
+    {
+        self.minutes_between(from, to)
     }
 
     /// Opens the chart again, with all its edges.

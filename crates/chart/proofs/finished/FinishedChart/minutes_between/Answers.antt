@@ -1,7 +1,7 @@
 use mathlib.Core.Path.{sym, _∙_}
 use native.Mathlib.Omega.{arith}
 use Rattle.chart.proofs.Distances.{chart-laws, answer-least, answer-short}
-use Rattle.chart.proofs.finished.FinishedChart.distance.Needs as need
+use Rattle.chart.proofs.finished.FinishedChart.minutes_between.Needs as need
 
 pub cast-result : need.cast-result
 cast-result c = omega (arith, answer-short _ _ (c .args .from) (c .args .to) (c .in-Some .minutes) (c .args .self .now .lawful) (c .args .self .now .closed) (c .in-Some .ensures tt))
