@@ -1,19 +1,19 @@
 -- What holds of the distances of a chart with lawful edges. Assumes nothing.
 use mathlib.Core.Path.{_≡_, sym, subst}
-use mathlib.Core.Bool.{true, not, _&&_}
+use mathlib.Core.Bool.{true, not}
 use mathlib.Core.List.{List, [], _∷_}
 use mathlib.Core.Logic.{∥∥₁-map, ∥∥₁-elim}
-use Prim.Native.Nat.{ℕ, zero, suc, _≤_, _<_}
+use Prim.Native.Nat.{ℕ, zero, suc, _≤_}
 use native.Mathlib.Omega.{arith}
 use native.Mathlib.Bridge.{le-prop}
 use lib.Dec.{eqb, leb}
-use lib.ListN.{length, getD}
+use lib.ListN.{length}
 use Rattle.std.specs.shelf.Lawful.{all-pass}
 use Rattle.std.proofs.shelf.Tests.{and-parts, leb-true}
 use Rattle.std.specs.declared.option.Option.{Option}
-use Rattle.std.specs.declared.option.Option.the-variants.{Some, None}
+use Rattle.std.specs.declared.option.Option.the-variants.{Some}
 use Rattle.walks.specs.declared.edge.Edge.{Edge}
-use Rattle.walks.specs.Walks.{noEdge, Least}
+use Rattle.walks.specs.Walks.{Least}
 use Rattle.walks.specs.Tables.{TableOf, lengthBetween}
 use Rattle.walks.specs.Laws.{NoneLonger}
 use Rattle.walks.proofs.Lawful.{laws-hold}

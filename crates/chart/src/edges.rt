@@ -1,5 +1,4 @@
 //! The edges sheet: a line has an edge's number, its two berths and its length in minutes.
-ghost use mathlib.Core.Path.{_≡_};
 ghost use Rattle.chart.specs.Edges.{edge-rules};
 use faults::Layer;
 use faults::Refusal;

@@ -1,5 +1,4 @@
 //! The parts of the table of distances.
-ghost use mathlib.Core.Path.{_≡_};
 ghost use Rattle.std.specs.Written.{Prints};
 ghost use Rattle.walks.specs.Tables.{lengthBetween};
 ghost use Rattle.distance_report.specs.Lines.{tabbed, headingText, cellText, cellsText, rowText, rowsText};

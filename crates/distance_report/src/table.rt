@@ -1,14 +1,10 @@
 //! The whole text for an edges sheet.
 ghost use mathlib.Core.Path.{_≡_};
 ghost use mathlib.Core.List.{[], _∷_, _++_};
-ghost use Prim.Native.Nat.{ℕ};
-ghost use lib.Chars.{codes};
-ghost use lib.ListN.{length};
 ghost use Rattle.std.specs.declared.option.Option.the-variants.{Some};
 ghost use Rattle.std.specs.Of.String.{string-bytes};
 ghost use Rattle.std.specs.Of.Vec.{vec-items};
 ghost use Rattle.std.specs.Vec.{made as when-made};
-ghost use Rattle.std.specs.Written.{decimal};
 ghost use Rattle.walks.specs.Tables.{lengthBetween};
 ghost use Rattle.faults.specs.Shown.{faultText};
 ghost use Rattle.distance_report.specs.Lines.{tableText, distancesText, Reports};

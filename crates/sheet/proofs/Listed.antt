@@ -8,7 +8,7 @@ use Rattle.std.proofs.shelf.Tests.{cond-true, le-leb}
 use Rattle.std.specs.declared.option.Option.{Option}
 use Rattle.std.specs.declared.option.Option.the-variants.{Some, None}
 use Rattle.std.specs.declared.result.Result.{Result}
-use Rattle.std.specs.declared.result.Result.the-variants.{Ok, Err}
+use Rattle.std.specs.declared.result.Result.the-variants.{Err}
 use Rattle.faults.specs.declared.fault.Fault.{Fault}
 use Rattle.tokens.specs.Text.{lines}
 use Rattle.tokens.specs.Tokens.{Tok, tokensOf}

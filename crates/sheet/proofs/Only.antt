@@ -1,24 +1,21 @@
 -- That a sheet says one thing only. Assumes nothing.
 use mathlib.Core.Path.{_≡_, refl, sym, ap, subst, _∙_}
-use mathlib.Core.Bool.{Bool, true, false, cond, _&&_}
+use mathlib.Core.Bool.{true, false}
 use mathlib.Core.List.{List, [], _∷_, _++_, map}
 use mathlib.Core.Logic.{_⊎_, inl, inr, ⊎-elim}
-use Prim.Native.Nat.{ℕ, zero, suc, _+_, _≤_, _<_}
+use Prim.Native.Nat.{ℕ, zero, suc, _+_, _<_}
 use native.Mathlib.Omega.{arith}
-use lib.Dec.{leb, ltb}
 use lib.ListN.{length, getD, take}
 use Rattle.std.specs.Options.{isSome, valueOr}
 use Rattle.std.specs.declared.option.Option.{Option}
 use Rattle.std.specs.declared.option.Option.the-variants.{Some, None}
-use Rattle.std.specs.declared.result.Result.{Result}
 use Rattle.std.specs.declared.result.Result.the-variants.{Ok, Err}
 use Rattle.std.proofs.shelf.Tests.{cond-true, cond-false, lt-ltb, le-ltb, le-leb, lt-leb, and-from, and-left, and-right}
-use Rattle.faults.specs.declared.refusal.Refusal.{Refusal}
 use Rattle.faults.specs.declared.fault.Fault.{Fault}
-use Rattle.tokens.specs.Text.{lines, fields, comment, numeral}
+use Rattle.tokens.specs.Text.{lines, fields, numeral}
 use Rattle.sheet.specs.Rules.{Rules}
-use Rattle.sheet.specs.Reading.{numerals, numberOf, numbers, unless, kept, admitted, judged, goOn, readLines, readSheet}
-use Rattle.sheet.specs.Says.{Numbers, Admits, Rejects, range, full, clash, Gives, Refuses, count, number, record′, Gave, Ends, SaysLines, Says, Reads}
+use Rattle.sheet.specs.Reading.{numerals, numbers, unless, kept, admitted, judged, goOn, readLines, readSheet}
+use Rattle.sheet.specs.Says.{Numbers, Admits, Rejects, range, full, clash, Gives, Refuses, count, number, record′, Gave, Ends, Says, Reads}
 use Rattle.sheet.proofs.Saying.{sheet-says}
 
 record Same (fs : List (List ℕ)) (ns : List ℕ) : Type 0 where

@@ -1,9 +1,9 @@
 -- That what a reader answers is what the sheet says. Assumes nothing.
 use mathlib.Core.Path.{_≡_, refl, ap, subst, _∙_}
-use mathlib.Core.Bool.{Bool, true, false, cond, _&&_}
+use mathlib.Core.Bool.{true, false}
 use mathlib.Core.List.{List, [], _∷_, _++_, map}
 use mathlib.Core.Logic.{_⊎_, inl, inr, ⊎-elim}
-use Prim.Native.Nat.{ℕ, suc, _+_, _≤_, _<_}
+use Prim.Native.Nat.{ℕ, suc, _+_, _<_}
 use native.Mathlib.Omega.{arith}
 use lib.Dec.{leb, ltb}
 use lib.ListN.{length, getD, take}
@@ -19,7 +19,7 @@ use Rattle.faults.specs.declared.fault.Fault.{Fault}
 use Rattle.tokens.specs.Text.{lines, fields, comment, numeral}
 use Rattle.sheet.specs.Rules.{Rules}
 use Rattle.sheet.specs.Reading.{numerals, numberOf, numbers, unless, kept, admitted, judged, goOn, atEnd, readLines, readSheet}
-use Rattle.sheet.specs.Says.{Numbers, Admits, Rejects, range, full, clash, Gives, Refuses, count, number, record′, Gave, Ends, SaysLines, Says}
+use Rattle.sheet.specs.Says.{Numbers, Admits, Rejects, range, full, clash, Gives, Refuses, count, number, record′, Gave, Ends, Says}
 
 some-is : (o : Option ℕ) → isSome o ≡ true → o ≡ Some (valueOr o 0)
 some-is None e = let z : _≡_ {A = ℕ} 0 1 = cc in absurd (omega arith)

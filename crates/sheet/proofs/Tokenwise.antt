@@ -8,8 +8,8 @@ use Rattle.std.specs.declared.option.Option.{Option}
 use Rattle.std.specs.declared.result.Result.{Result}
 use Rattle.std.specs.declared.result.Result.the-variants.{Ok, Err}
 use Rattle.faults.specs.declared.fault.Fault.{Fault}
-use Rattle.tokens.specs.Text.{lines, fields, comment}
-use Rattle.tokens.specs.Tokens.{Tok, word, stop, words, toks}
+use Rattle.tokens.specs.Text.{fields, comment}
+use Rattle.tokens.specs.Tokens.{Tok, stop, words, toks}
 use Rattle.sheet.specs.declared.row.Row.{Row}
 use Rattle.sheet.specs.Rules.{Rules}
 use Rattle.sheet.specs.Rows.{Holds}

@@ -4,17 +4,16 @@ use mathlib.Core.Bool.{Bool, true, false, cond, not}
 use mathlib.Core.List.{List, [], _∷_, _++_, map}
 use mathlib.Core.Logic.{⊎-elim}
 use Prim.Native.Nat.{ℕ, suc, _+_, _-_, _≤_, _<_}
-use native.Mathlib.Numerals.{add-one, one-add}
+use native.Mathlib.Numerals.{one-add}
 use native.Mathlib.Omega.{arith}
 use lib.Dec.{eqb}
 use lib.ListN.{length, take, drop}
-use Rattle.std.specs.shelf.Lists.{leading}
 use Rattle.std.proofs.shelf.Lists.{take-all, drop-all}
 use Rattle.std.proofs.shelf.Tests.{cases-lt}
 use Rattle.tokens.specs.declared.reader.Stage.{Stage}
 use Rattle.tokens.specs.declared.reader.Stage.the-variants.{Between, Inside, Ended}
 use Rattle.tokens.specs.Text.{onFirst, lines, pieces, fields, trimmed, before, comment}
-use Rattle.tokens.specs.Tokens.{Tok, word, stop, words, lineToks, toks, toCome}
+use Rattle.tokens.specs.Tokens.{word, stop, words, lineToks, toks, toCome}
 
 cut-step : (t : Bool) (b : ℕ) (bs : List ℕ) (k : ℕ) (F : List ℕ → List (List ℕ)) → (t ≡ false → F bs ≡ take k bs ∷ F (drop (k + 1) bs)) → cond t ([] ∷ F bs) (onFirst b (F bs)) ≡ take (cond (not t) (1 + k) 0) (b ∷ bs) ∷ F (drop (cond (not t) (1 + k) 0 + 1) (b ∷ bs))
 cut-step true b bs k F ih = refl

@@ -1,21 +1,19 @@
 -- The steps of the leaves' loops. Assumes nothing.
-use mathlib.Core.Path.{_≡_, refl, sym, ap, _∙_}
-use mathlib.Core.Bool.{Bool, true, false, cond, not, _&&_}
-use mathlib.Core.List.{List, [], _∷_}
+use mathlib.Core.Path.{_≡_, sym, ap, _∙_}
+use mathlib.Core.Bool.{Bool, true, false, cond, _&&_}
+use mathlib.Core.List.{List}
 use Prim.Native.Nat.{ℕ, _+_, _-_, _*_, _^_, _≤_, _<_}
 use native.Mathlib.Nat.{pow-suc, pow-le-pow-right}
 use native.Mathlib.Numerals.{add-one}
 use native.Mathlib.Omega.{arith}
-use lib.Dec.{eqb, leb}
+use lib.Dec.{leb}
 use lib.ListN.{length, getD, take, drop}
 use Rattle.std.specs.shelf.Lists.{leading, ending}
-use Rattle.std.specs.declared.option.Option.{Option}
 use Rattle.std.specs.declared.option.Option.the-variants.{Some, None}
-use Rattle.std.proofs.shelf.Lists.{at-drop-more, at-drop-all, take-all, take-rest}
+use Rattle.std.proofs.shelf.Lists.{at-drop-more, take-all, take-rest}
 use Rattle.std.proofs.shelf.Sums.{leading-drop-yes, leading-drop-no, leading-drop-all, ending-take-yes, ending-take-no}
-use Rattle.std.proofs.shelf.Tests.{le-leb, lt-leb, cond-true, cond-false, and-from, and-right}
-use Rattle.std.proofs.shelf.Ways.{tells}
-use Rattle.tokens.specs.Text.{space, withoutFront, withoutEnd, trimmed, digit, allDigits, decimalAfter, numeral}
+use Rattle.std.proofs.shelf.Tests.{le-leb, cond-true, cond-false}
+use Rattle.tokens.specs.Text.{space, withoutFront, withoutEnd, trimmed, digit, allDigits, decimalAfter}
 
 module _ (p : ℕ → Bool) (xs : List ℕ) (i n : ℕ) (inv : i + leading p (drop i xs) ≡ n) where
   pub lead-more : i < length xs → p (getD xs i 0) ≡ true → (i + 1) + leading p (drop (i + 1) xs) ≡ n
@@ -75,13 +73,8 @@ pow-room sum i h lt =
     let m : 10 ^ i ≤ 10 ^ 9 = pow-le-pow-right z le in
     omega arith
 
-pub numeral-yes : (bs : List ℕ) (n : ℕ) → 0 < length bs → length bs ≤ 10 → allDigits bs ≡ true → decimalAfter 0 bs ≡ n → Some n ≡ numeral bs
-numeral-yes bs n some few digits e =
-    let a = le-leb 1 (length bs) some in
-    let b = le-leb (length bs) 10 few in
-    let c = cond-true (leb 1 (length bs) && (leb (length bs) 10 && allDigits bs)) (Some (decimalAfter 0 bs)) None (and-from _ _ a (and-from _ _ b digits)) in
-    ap Some (sym e) ∙ sym c
+pub decimal-yes : (bs : List ℕ) (n : ℕ) → allDigits bs ≡ true → decimalAfter 0 bs ≡ n → Some n ≡ cond (allDigits bs) (Some (decimalAfter 0 bs)) None
+decimal-yes bs n digits e = ap Some (sym e) ∙ sym (cond-true (allDigits bs) (Some (decimalAfter 0 bs)) None digits)
 
-pub numeral-no : (bs : List ℕ) → allDigits bs ≡ false → None ≡ numeral bs
-numeral-no bs digits =
-    sym (cond-false (leb 1 (length bs) && (leb (length bs) 10 && allDigits bs)) (Some (decimalAfter 0 bs)) None (and-right (leb 1 (length bs)) _ (and-right (leb (length bs) 10) _ digits)))
+pub decimal-no : (bs : List ℕ) → allDigits bs ≡ false → None ≡ cond (allDigits bs) (Some (decimalAfter 0 bs)) None
+decimal-no bs digits = sym (cond-false (allDigits bs) (Some (decimalAfter 0 bs)) None digits)

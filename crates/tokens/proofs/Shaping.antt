@@ -1,15 +1,15 @@
 -- That lines, fields and trimmed text are what they should be. Assumes nothing.
 use mathlib.Core.Path.{_≡_, refl, sym, ap, subst, _∙_}
-use mathlib.Core.Bool.{Bool, true, false, cond, not}
-use mathlib.Core.List.{List, [], _∷_, _++_, append-nil, append-assoc, reverse}
+use mathlib.Core.Bool.{Bool, true, false, cond}
+use mathlib.Core.List.{List, [], _∷_, _++_, append-assoc, reverse}
 use mathlib.Core.Logic.{_⊎_, inl, inr, ⊎-elim}
-use Prim.Native.Nat.{ℕ, zero, suc, _+_, _-_, _≤_, _<_}
+use Prim.Native.Nat.{ℕ, zero, suc, _+_, _-_, _<_}
 use native.Mathlib.Omega.{arith}
 use lib.Dec.{eqb}
 use lib.ListN.{length, getD, take, drop, replicate}
 use Rattle.std.specs.shelf.Lists.{All, leading, ending}
 use Rattle.std.proofs.shelf.Lists.{reverse-append, reverse-reverse, replicate-more, length-append, length-replicate, length-reverse, take-at, getD-reverse}
-use Rattle.std.proofs.shelf.Tests.{eqb-true, eqb-false, ne-eqb, eq-eqb, cond-both, cond-true, cond-false}
+use Rattle.std.proofs.shelf.Tests.{eqb-true, eqb-false, ne-eqb, cond-both, cond-false}
 use Rattle.tokens.specs.Text.{onFirst, lines, pieces, space, trimmed, withoutFront, withoutEnd}
 use Rattle.tokens.specs.Shapes.{Lacks, closed, LinesOf, joinedBy, PiecesOf, Trims, CutRightly}
 

@@ -3,7 +3,6 @@ use crate::direct::direct_lengths;
 use crate::edge::Edge;
 use crate::rounds::settle;
 ghost use mathlib.Core.Path.{_≡_};
-ghost use Rattle.walks.specs.Laws.{WalkLaws};
 ghost use Rattle.walks.specs.Tables.{TableOf, lengthBetween};
 
 /// The least length of a walk from each berth to each: that from x to y stands at x * 32 + y.
@@ -12,10 +11,9 @@ pub struct LengthTable {
     lengths: [Option<u64>; 1024],
 }
 
-/// The least lengths of walks over `edges`, and the laws that they obey.
+/// The least lengths of walks over `edges`.
 pub fn least_lengths(edges: &[Edge]) -> LengthTable
-    ensures table { λ r. ⌜ TableOf (now (edges .entry)) (r .lengths) ⌝ }
-    ensures laws { λ _. ⌜ WalkLaws (now (edges .entry)) ⌝ }
+    ensures { λ r. ⌜ TableOf (now (edges .entry)) (r .lengths) ⌝ }
 {
     let mut lengths = direct_lengths(edges);
     settle(&mut lengths);

@@ -1,13 +1,13 @@
 //! How a reader goes from token to token.
 ghost use mathlib.Core.Path.{_≡_};
-ghost use mathlib.Core.List.{List, [], _∷_};
-ghost use Prim.Native.Nat.{_+_, _-_, _≤_};
+ghost use mathlib.Core.List.{[], _∷_};
+ghost use Prim.Native.Nat.{_+_, _-_, _^_, _≤_};
 ghost use lib.ListN.{length, drop};
 ghost use Rattle.std.specs.Orderings.{When};
 ghost use Rattle.tokens.specs.declared.reader.Stage.the-variants.{Between, Inside, Ended};
 ghost use Rattle.tokens.specs.Shapes.{CutRightly};
-ghost use Rattle.tokens.specs.Text.{comment};
-ghost use Rattle.tokens.specs.Tokens.{tokensOf, seen, left, Next};
+ghost use Rattle.tokens.specs.Text.{comment, lines};
+ghost use Rattle.tokens.specs.Tokens.{toks, tokensOf, seen, left, Next};
 use crate::reader::Reader;
 use crate::reader::Stage;
 use crate::reader::Token;
@@ -38,19 +38,28 @@ fn after(bytes: &[u8], end: usize) -> &[u8]
 }
 
 impl<'a> Reader<'a> {
+    /// A reader of the lines that follow a line.
+    fn after_line(rest: &'a [u8], line: usize) -> Reader<'a>
+        requires { ⌜ line + length (now rest) ≤ 2 ^ 63 ⌝ }
+        ensures tokens { λ r. ⌜ left r ≡ toks (line + 1) (lines (now (rest .entry))) ⌝ }
+        ensures format { λ _. ⌜ CutRightly ⌝ }
+    {
+        Reader {
+            rest,
+            body: &rest[0..0],
+            stage: Stage::Between,
+            line,
+            field: 0,
+        }
+    }
+
     /// A reader at the start of a sheet. It will hand on the tokens of the sheet's lines and fields,
     /// which are what the format says, and nothing else.
     pub fn new(sheet: &'a [u8]) -> Reader<'a>
         ensures tokens { λ r. ⌜ left r ≡ tokensOf (now (sheet .entry)) ⌝ }
         ensures format { λ _. ⌜ CutRightly ⌝ }
     {
-        Reader {
-            rest: sheet,
-            body: &sheet[0..0],
-            stage: Stage::Between,
-            line: 0,
-            field: 0,
-        }
+        Reader::after_line(sheet, 0)
     }
 
     /// The end of the current line.

@@ -5,5 +5,5 @@ use Rattle.chart.proofs.finished.finish.Needs as need
 pub ghost-result : need.ghost-result
 ghost-result c = (
   c .pre .room,
-  (c .pre .lawful, (∣ subst (λ es. TableOf es (c .least-lengths-lengths .result .lengths)) (c .as-slice .ensures .value) (c .least-lengths-lengths .ensures .table) ∣₁, tt)),
+  (c .pre .lawful, (∣ subst (λ es. TableOf es (c .least-lengths-lengths .result .lengths)) (c .as-slice .ensures .value) (c .least-lengths-lengths .ensures) ∣₁, tt)),
 )

@@ -1,4 +1,3 @@
-use mathlib.Core.Path.{sym, _∙_}
 use native.Mathlib.Omega.{arith}
 use Rattle.chart.proofs.Distances.{chart-laws, answer-least, answer-short}
 use Rattle.chart.proofs.finished.FinishedChart.minutes_between.Needs as need

@@ -1,4 +1,4 @@
-use mathlib.Core.Path.{_∙_, ap, sym}
+use mathlib.Core.Path.{_∙_, ap}
 use mathlib.Core.Bool.{_&&_}
 use lib.ListN.{set}
 use Rattle.std.specs.Options.{isSome, valueOr}

@@ -2,7 +2,7 @@ use mathlib.Core.Path.{_≡_}
 use Prim.Native.Nat.{_^_, _<_}
 use lib.ListN.{drop}
 use Rattle.tokens.specs.Text.{allDigits, decimalAfter}
-use Rattle.tokens.proofs.text.number.Given as given
+use Rattle.tokens.proofs.text.decimal.Given as given
 
 abbrev pub Inv-loop-digit : given.InvT-loop-digit
 Inv-loop-digit l =

@@ -1,15 +1,14 @@
 use mathlib.Core.Path.{sym, _∙_}
-use native.Mathlib.Omega.{arith}
 use Rattle.std.proofs.shelf.Lists.{at-drop-all}
-use Rattle.std.proofs.shelf.Tests.{lt-leb, and-left, and-right, eqb-false}
+use Rattle.std.proofs.shelf.Tests.{lt-leb, and-left, and-right}
 use Rattle.tokens.specs.Text.{allDigits, decimalAfter}
-use Rattle.tokens.proofs.Leaves.{digits-more, decimal-more, pow-more, not-digit, numeral-yes, numeral-no}
-use Rattle.tokens.proofs.text.number.Needs as need
-use Rattle.tokens.proofs.text.number.Needs.{then-digit-lt48·by·then-digit-lt48, then-digit-lt48·by·else-digit-lt48·then-digit-gt57}
+use Rattle.tokens.proofs.Leaves.{digits-more, decimal-more, pow-more, not-digit, decimal-yes, decimal-no}
+use Rattle.tokens.proofs.text.decimal.Needs as need
+use Rattle.tokens.proofs.text.decimal.Needs.{then-digit-lt48·by·then-digit-lt48, then-digit-lt48·by·else-digit-lt48·then-digit-gt57}
 
 pub returns-then-digit-lt48 : need.returns-then-digit-lt48
 returns-then-digit-lt48 c =
-    numeral-no (c .args .text .now) (sym (c .loop-digit .inv .1) ∙ not-digit _ (c .loop-digit .digit-index) 0 (c .loop-digit-test .taken)
+    decimal-no (c .args .text .now) (sym (c .loop-digit .inv .1) ∙ not-digit _ (c .loop-digit .digit-index) 0 (c .loop-digit-test .taken)
     (elim (c .then-digit-lt48 .came) [
       | then-digit-lt48·by·then-digit-lt48 w ↦ and-left _ _ (lt-leb 48 _ (w .if-digit-lt48 .taken))
       | then-digit-lt48·by·else-digit-lt48·then-digit-gt57 w ↦ and-right _ _ (lt-leb _ 57 (w .if-digit-gt57 .taken))
@@ -25,6 +24,5 @@ loop-digit-again c =
 
 pub returns : need.returns
 returns c =
-    numeral-yes _ _ (omega (arith, eqb-false _ 0 (sym (c .if-is-empty .ensures tt)))) (c .if-text-gt10 .left)
-    (sym (c .loop-digit .inv .1) ∙ at-drop-all allDigits _ _ (c .loop-digit-test .left))
+    decimal-yes (c .args .text .now) _ (sym (c .loop-digit .inv .1) ∙ at-drop-all allDigits _ _ (c .loop-digit-test .left))
     (sym (c .loop-digit .inv .2) ∙ at-drop-all (decimalAfter (c .loop-digit .sum)) _ _ (c .loop-digit-test .left))
