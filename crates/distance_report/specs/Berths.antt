@@ -1,8 +1,9 @@
 -- The berths that edges name. Assumes nothing.
-use mathlib.Core.Bool.{Bool, false, cond, _||_}
+use mathlib.Core.Bool.{Bool, cond, _||_}
 use mathlib.Core.List.{List, [], _∷_, _++_}
 use Prim.Native.Nat.{ℕ, zero, suc, _+_}
 use lib.Dec.{eqb}
+use Rattle.lists.specs.Some.{some-pass}
 use Rattle.walks.specs.declared.edge.Edge.{Edge}
 
 -- whether the edge begins or ends at x
@@ -11,8 +12,7 @@ endsAt e x = eqb (e .left) x || eqb (e .right) x
 
 -- whether some edge begins or ends at x
 abbrev pub isNamed : List Edge → ℕ → Bool
-isNamed [] x = false
-isNamed (e ∷ es) x = endsAt e x || isNamed es x
+isNamed es x = some-pass (λ e. endsAt e x) es
 
 -- those of the numbers below n where an edge begins or ends, in order
 abbrev pub namedBelow : List Edge → ℕ → List ℕ

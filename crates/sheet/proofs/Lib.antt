@@ -4,3 +4,4 @@ pub mod Only
 pub mod Tokenwise
 pub mod Listed
 pub mod Every
+pub mod Filled

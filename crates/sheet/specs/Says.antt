@@ -3,8 +3,8 @@ use mathlib.Core.Path.{_≡_}
 use mathlib.Core.Bool.{true, false}
 use mathlib.Core.List.{List, [], _∷_, _++_, map}
 use mathlib.Core.Logic.{_⊎_}
-use Prim.Native.Nat.{ℕ, _+_, _≤_, _<_}
-use lib.ListN.{length, getD, take}
+use Prim.Native.Nat.{ℕ, _+_, _≤_, _<_, min}
+use lib.ListN.{length, getD, take, drop}
 use Rattle.std.specs.declared.option.Option.{Option}
 use Rattle.std.specs.declared.option.Option.the-variants.{Some, None}
 use Rattle.faults.specs.declared.refusal.Refusal.{Refusal}
@@ -72,3 +72,10 @@ module _ {R : Type 0} (rules : Rules R) (room : ℕ) where
   pub record Reads (sheet : List ℕ) (rs : List R) (fault : Option Fault) : Type 0 where
     pub says : Says sheet rs fault
     pub only : (qs : List R) (other : Option Fault) → Says sheet qs other → (qs ≡ rs) × (other ≡ fault)
+
+-- a table after a sheet was read into it: in front what the sheet says, with room for as many records as the table has entries, and all else as it was
+pub record Fills {R : Type 0} (rules : Rules R) (sheet : List ℕ) (before : List R) (count : ℕ) (fault : Option Fault) (after : List R) : Type 0 where
+  pub reads : Reads rules (min (rules .most) (length before)) sheet (take count after) fault
+  pub within : count ≤ length before
+  pub long : length after ≡ length before
+  pub rest : drop count after ≡ drop count before

@@ -16,10 +16,10 @@ use std::alloc::Global;
 use tokens::Reader;
 
 /// A sheet has at most so many bytes.
-const MOST_BYTES: usize = 60_000;
+pub(crate) const MOST_BYTES: usize = 60_000;
 
 /// What is amiss at the end of a sheet with this many records: too few of them, or nothing.
-fn lack_of_records<K: SheetKind>(kind: &K, count: usize) -> Option<Fault>
+pub(crate) fn lack_of_records<K: SheetKind>(kind: &K, count: usize) -> Option<Fault>
     ensures { λ r. ⌜ r ≡ lacking (rules (now (kind .entry))) count ⌝ }
 {
     if count < kind.least() {

@@ -1,21 +1,14 @@
-use mathlib.Core.Path.{sym, ap, _∙_}
-use mathlib.Core.Bool.{_||_}
-use Prim.Native.Nat.{_+_}
-use lib.ListN.{drop}
-use Rattle.std.proofs.shelf.Lists.{at-drop-more, at-drop-all}
+use mathlib.Core.Path.{sym}
+use Rattle.lists.proofs.Scans.{scan-hit, scan-miss, scan-over}
 use Rattle.walks.specs.Walks.{noEdge}
-use Rattle.distance_report.specs.Berths.{isNamed}
+use Rattle.distance_report.specs.Berths.{endsAt}
 use Rattle.distance_report.proofs.berths.is_named.Needs as need
 
 pub returns-then-ends-at : need.returns-then-ends-at
-returns-then-ends-at c =
-    ap (λ b. b || isNamed (drop (c .loop-edge .edge-index + 1) (c .args .edges .now)) (c .args .berth)) (c .if-ends-at .ensures tt)
-    ∙ sym (at-drop-more (λ es. isNamed es (c .args .berth)) (c .args .edges .now) (c .loop-edge .edge-index) noEdge (c .loop-edge-test .taken)) ∙ c .loop-edge .inv
+returns-then-ends-at c = sym (scan-hit (λ e. endsAt e (c .args .berth)) (c .args .edges .now) (c .loop-edge .edge-index) (c .loop-edge .inv) noEdge (c .loop-edge-test .taken) (sym (c .if-ends-at .ensures tt)))
 
 pub loop-edge-again : need.loop-edge-again
-loop-edge-again c =
-    ap (λ b. b || isNamed (drop (c .loop-edge .edge-index + 1) (c .args .edges .now)) (c .args .berth)) (c .if-ends-at .ensures tt)
-    ∙ sym (at-drop-more (λ es. isNamed es (c .args .berth)) (c .args .edges .now) (c .loop-edge .edge-index) noEdge (c .loop-edge-test .taken)) ∙ c .loop-edge .inv
+loop-edge-again c = scan-miss (λ e. endsAt e (c .args .berth)) (c .args .edges .now) (c .loop-edge .edge-index) (c .loop-edge .inv) noEdge (c .loop-edge-test .taken) (sym (c .if-ends-at .ensures tt))
 
 pub returns : need.returns
-returns c = sym (at-drop-all (λ es. isNamed es (c .args .berth)) (c .args .edges .now) (c .loop-edge .edge-index) (c .loop-edge-test .left)) ∙ c .loop-edge .inv
+returns c = sym (scan-over (λ e. endsAt e (c .args .berth)) (c .args .edges .now) (c .loop-edge .edge-index) (c .loop-edge .inv) (c .loop-edge-test .left))

@@ -1,0 +1,4 @@
+pub mod Weights
+pub mod Bounds
+pub mod Firsts
+pub mod Steps
