@@ -73,13 +73,7 @@ impl DrawnChart {
             u64::from(edge.right),
             u64::from(edge.length),
         ];
-        match admit(
-            &EdgesSheet,
-            self.edges(),
-            MOST_EDGES,
-            edge.line,
-            &numbers,
-        ) {
+        match admit(&EdgesSheet, self.edges(), MOST_EDGES, edge.line, &numbers) {
             Ok(new) => {
                 self.edges.push_reserved(new);
                 Ok(())

@@ -67,7 +67,11 @@ pub impl SheetKind for ChargesSheet as ChargesSheetKind {
 pub fn read_charges(sheet: &[u8]) -> Result<Charges, Fault>
     ensures { λ r. ⌜ Charged (now (sheet .entry)) r ⌝ }
 {
-    let mut table = [Charges { out: 0, home: 0, fee: 0 }];
+    let mut table = [Charges {
+        out: 0,
+        home: 0,
+        fee: 0,
+    }];
     match fill_sheet(&ChargesSheet, sheet, &mut table).fault {
         Some(fault) => Err(fault),
         None => Ok(table[0]),

@@ -1,0 +1,6 @@
+//! The board of standing trips: which trips stand, in which order, and how many duties they may
+//! take.
+mod board;
+
+pub use board::Board;
+pub use board::calls::add_then_withdraw;
