@@ -13,6 +13,7 @@ use Rattle.faults.specs.declared.fault.Fault.{Fault}
 use Rattle.faults.specs.declared.layer.Layer.the-variants.{Board}
 use Rattle.faults.specs.declared.refusal.Refusal.{Refusal}
 use Rattle.faults.specs.declared.refusal.Refusal.the-variants.{TripOutOfRange, NotBeforeArrival, NumberStands, NotServed, BoardFull, NumberDoesNotStand, LimitTooHigh}
+use Rattle.faults.specs.Shown.{faultAt}
 use Rattle.rules.specs.declared.rule.YardCents.{YardCents}
 use Rattle.trips.specs.declared.trip.Trip.{Trip}
 use Rattle.board.specs.Ranges.{inRange, departsFirst}
@@ -42,14 +43,10 @@ withdrawRefusal ts n = first ((not (stands ts n), NumberDoesNotStand) ∷ [])
 abbrev pub limitRefusal : ℕ → Option Refusal
 limitRefusal n = first ((ltb 200 n, LimitTooHigh) ∷ [])
 
--- the board's fault with a refusal and a place
-abbrev pub fault : Refusal → ℕ → Fault
-fault refusal place = record { refusal = refusal; layer = Board; place = place }
-
 -- what a call answers: the fault where there is a reason to refuse it
 abbrev pub answer : Option Refusal → ℕ → Result (Unit {0}) Fault
 answer None place = Ok tt
-answer (Some refusal) place = Err (fault refusal place)
+answer (Some refusal) place = Err (faultAt Board refusal place)
 
 -- what holds after a call: what held before where it is refused, and else what the call makes of it
 abbrev pub unlessRefused : {X : Type 0} → Option Refusal → X → X → X

@@ -6,6 +6,7 @@ use Rattle.std.specs.declared.result.Result.the-variants.{Ok, Err}
 use Rattle.faults.specs.declared.fault.Fault.{Fault}
 use Rattle.faults.specs.declared.refusal.Refusal.the-variants.{OutOfRange}
 use Rattle.faults.specs.declared.layer.Layer.the-variants.{Planner}
+use Rattle.faults.specs.Shown.{faultAt}
 use Rattle.chart.specs.declared.finished.FinishedChart.{FinishedChart}
 use Rattle.ferry_rule.specs.declared.rule.FerryRule.{FerryRule}
 
@@ -26,4 +27,4 @@ pub record MadeFrom (rule : FerryRule) (chart : FinishedChart) (least most facto
 -- a rule made again: from terms within their ranges it is made anew, others are refused and leave it as it was
 abbrev pub Remade : {U : Type 0} → FerryRule → FinishedChart → ℕ → ℕ → ℕ → Result U Fault → FerryRule → Type 0
 Remade old chart least most factor (Ok done) new = Terms least most factor × MadeFrom new chart least most factor
-Remade old chart least most factor (Err f) new = (Terms least most factor → ⊥) × (f ≡ record { refusal = OutOfRange; layer = Planner; place = 0 }) × (new ≡ old)
+Remade old chart least most factor (Err f) new = (Terms least most factor → ⊥) × (f ≡ faultAt Planner OutOfRange 0) × (new ≡ old)

@@ -12,14 +12,11 @@ use Rattle.std.specs.declared.result.Result.{Result}
 use Rattle.std.specs.declared.result.Result.the-variants.{Ok, Err}
 use Rattle.faults.specs.declared.refusal.Refusal.{Refusal}
 use Rattle.faults.specs.declared.refusal.Refusal.the-variants.{InputTooLong, FieldCount, NotANumber, OutOfRange, RecordCount}
-use Rattle.faults.specs.declared.layer.Layer.{Layer}
 use Rattle.faults.specs.declared.fault.Fault.{Fault}
+use Rattle.faults.specs.Shown.{faultAt}
 use Rattle.tokens.specs.Text.{lines, fields, comment, numeral}
 use Rattle.tokens.specs.Tokens.{Tok, word, stop}
 use Rattle.sheet.specs.Rules.{Rules}
-
-abbrev pub faultAt : Layer → Refusal → ℕ → Fault
-faultAt layer refusal place = record { refusal = refusal; layer = layer; place = place }
 
 -- whether each field is one to ten digits
 abbrev pub numerals : List (List ℕ) → Bool

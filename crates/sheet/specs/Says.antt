@@ -10,9 +10,9 @@ use Rattle.std.specs.declared.option.Option.the-variants.{Some, None}
 use Rattle.faults.specs.declared.refusal.Refusal.{Refusal}
 use Rattle.faults.specs.declared.refusal.Refusal.the-variants.{InputTooLong, FieldCount, NotANumber, OutOfRange, RecordCount}
 use Rattle.faults.specs.declared.fault.Fault.{Fault}
+use Rattle.faults.specs.Shown.{faultAt}
 use Rattle.tokens.specs.Text.{lines, fields, comment, numeral}
 use Rattle.sheet.specs.Rules.{Rules}
-use Rattle.sheet.specs.Reading.{faultAt}
 
 -- ns are the numbers in the fields, each of one to ten digits
 abbrev pub Numbers : List (List ℕ) → List ℕ → Type 0

@@ -1,7 +1,9 @@
 //! The reasons to refuse a trip, and the fault that a refusal gives.
 ghost use mathlib.Core.Path.{_≡_};
 ghost use Rattle.board.specs.Ranges.{inRange};
-ghost use Rattle.board.specs.Refusals.{addRefusal, fault};
+ghost use Rattle.faults.specs.Shown.{faultAt};
+ghost use Rattle.faults.specs.declared.layer.Layer.the-variants.{Board as BoardLayer};
+ghost use Rattle.board.specs.Refusals.{addRefusal};
 use super::places::number_stands;
 use faults::Fault;
 use faults::Layer;
@@ -44,7 +46,7 @@ pub(crate) fn why_not_added<R: Rule>(rule: &R, trips: &[Trip], trip: &Trip) -> O
 
 /// The board's fault with a refusal and the place that it speaks of.
 pub(crate) fn refused(refusal: Refusal, place: u16) -> Fault
-    ensures { λ r. ⌜ r ≡ fault refusal place ⌝ }
+    ensures { λ r. ⌜ r ≡ faultAt BoardLayer refusal place ⌝ }
 {
     Fault {
         refusal,
