@@ -2,8 +2,10 @@
 ghost use mathlib.Core.Path.{_≡_};
 ghost use Prim.Native.Nat.{_*_, _≤_};
 ghost use Rattle.std.specs.Options.{Cases as BySome};
+ghost use Rattle.std.specs.Of.Vec.{vec-items};
 ghost use Rattle.walks.specs.Tables.{lengthBetween};
 ghost use Rattle.ferry_rule.specs.Facts.{ferryLink, ferryYard};
+ghost use Rattle.ferry_rule.specs.Sailing.{LinkSailed, YardSailed};
 ghost use Rattle.ferry_rule.specs.Lawful.{ferry-forward, ferry-yard-bound, ferry-link-bound};
 use crate::rule::FerryRule;
 use rules::Rule;
@@ -30,6 +32,38 @@ impl FerryRule {
     {
         minutes * u32::from(self.factor)
     }
+
+    /// What the ways from the yard to a trip and home from it cost.
+    fn yard_ways(&self, trip: &Trip) -> Option<YardCents>
+        ensures { λ r. ⌜ r ≡ ferryYard (lengthBetween (now (self .entry) .chart .lengths .lengths)) (now (self .entry) .factor) (now (trip .entry)) ⌝ }
+    {
+        let Some(out) = self.minutes(YARD, trip.start) else {
+            return None;
+        };
+        let Some(home) = self.minutes(trip.end, YARD) else {
+            return None;
+        };
+        Some(YardCents {
+            out: self.cents(out),
+            home: self.cents(home),
+        })
+    }
+
+    /// What the way from one trip to the next costs, if the gap fits it.
+    fn link_way(&self, from: &Trip, to: &Trip) -> Option<u32>
+        ensures { λ r. ⌜ r ≡ ferryLink (lengthBetween (now (self .entry) .chart .lengths .lengths)) (now (self .entry) .least) (now (self .entry) .most) (now (self .entry) .factor) (now (from .entry)) (now (to .entry)) ⌝ }
+    {
+        let Some(minutes) = self.minutes(from.end, to.start) else {
+            return None;
+        };
+        let lower = u32::from(self.least) + minutes;
+        let upper = u32::from(self.most) + minutes;
+        if gap_within(from, to, lower, upper) {
+            Some(self.cents(minutes))
+        } else {
+            None
+        }
+    }
 }
 
 pub impl Rule for FerryRule as FerryRuleRule {
@@ -43,29 +77,17 @@ pub impl Rule for FerryRule as FerryRuleRule {
 
     ghost linkbound = { λ s a b n e. ferry-link-bound s a b n e };
 
-    fn yard_cents(&self, trip: &Trip) -> Option<YardCents> {
-        let Some(out) = self.minutes(YARD, trip.start) else {
-            return None;
-        };
-        let Some(home) = self.minutes(trip.end, YARD) else {
-            return None;
-        };
-        Some(YardCents {
-            out: self.cents(out),
-            home: self.cents(home),
-        })
+    fn yard_cents(&self, trip: &Trip) -> Option<YardCents>
+        ensures fact { λ r. ⌜ r ≡ ferryYard (lengthBetween (now (self .entry) .chart .lengths .lengths)) (now (self .entry) .factor) (now (trip .entry)) ⌝ }
+        ensures sailed { λ r. ⌜ YardSailed (vec-items (now (self .entry) .chart .edges)) (now (self .entry) .factor) (now (trip .entry)) r ⌝ }
+    {
+        self.yard_ways(trip)
     }
 
-    fn link_cents(&self, from: &Trip, to: &Trip) -> Option<u32> {
-        let Some(minutes) = self.minutes(from.end, to.start) else {
-            return None;
-        };
-        let lower = u32::from(self.least) + minutes;
-        let upper = u32::from(self.most) + minutes;
-        if gap_within(from, to, lower, upper) {
-            Some(self.cents(minutes))
-        } else {
-            None
-        }
+    fn link_cents(&self, from: &Trip, to: &Trip) -> Option<u32>
+        ensures fact { λ r. ⌜ r ≡ ferryLink (lengthBetween (now (self .entry) .chart .lengths .lengths)) (now (self .entry) .least) (now (self .entry) .most) (now (self .entry) .factor) (now (from .entry)) (now (to .entry)) ⌝ }
+        ensures sailed { λ r. ⌜ LinkSailed (vec-items (now (self .entry) .chart .edges)) (now (self .entry) .least) (now (self .entry) .most) (now (self .entry) .factor) (now (from .entry)) (now (to .entry)) r ⌝ }
+    {
+        self.link_way(from, to)
     }
 }

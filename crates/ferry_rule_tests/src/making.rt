@@ -11,7 +11,13 @@ use std::test::*;
 use trips::Trip;
 
 /// Sees that the rule is not made from these terms, and links as before.
-fn refuses(heap: Global, rule: &mut FerryRule, least: u16, most: u16, factor: u16) -> Result<(), Fail> {
+fn refuses(
+    heap: Global,
+    rule: &mut FerryRule,
+    least: u16,
+    most: u16,
+    factor: u16,
+) -> Result<(), Fail> {
     let chart = DrawnChart::new(heap)?.close();
     match rule.remake(chart, least, most, factor) {
         Ok(()) => Err(Fail::new("the rule was made")),
@@ -50,6 +56,12 @@ fn built_in(rt: LibcRuntime) -> Result<(), Fail> {
     let rule = FerryRule::new(rt.alloc())?;
     check(rule.yard_cents(&Trip::new(1, 0, 50, 0, 65)).is_some())?;
     check(rule.yard_cents(&Trip::new(1, 0, 50, 1, 65)).is_none())?;
-    check_eq(rule.link_cents(&Trip::new(1, 0, 50, 1, 65), &Trip::new(2, 1, 65, 1, 70)), Some(0))?;
-    check_eq(rule.link_cents(&Trip::new(1, 0, 50, 1, 65), &Trip::new(2, 1, 66, 1, 70)), None)
+    check_eq(
+        rule.link_cents(&Trip::new(1, 0, 50, 1, 65), &Trip::new(2, 1, 65, 1, 70)),
+        Some(0),
+    )?;
+    check_eq(
+        rule.link_cents(&Trip::new(1, 0, 50, 1, 65), &Trip::new(2, 1, 66, 1, 70)),
+        None,
+    )
 }

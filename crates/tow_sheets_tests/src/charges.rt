@@ -27,7 +27,12 @@ fn gives(sheet: &[u8], out: u32, home: u32, fee: u32) -> Result<(), Fail> {
 #[test]
 fn one_record(_rt: LibcRuntime) -> Result<(), Fail> {
     gives(b"1000; 1000; 5000\n", 1000, 1000, 5000)?;
-    gives(b"# out; home; fee\n0;1000000000;1000000000", 0, 1000000000, 1000000000)?;
+    gives(
+        b"# out; home; fee\n0;1000000000;1000000000",
+        0,
+        1000000000,
+        1000000000,
+    )?;
     gives(b"1000000000;0;0", 1000000000, 0, 0)
 }
 

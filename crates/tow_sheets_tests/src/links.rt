@@ -8,7 +8,14 @@ use tow_sheets::Link;
 use tow_sheets::read_links;
 
 /// What stands in a table before a sheet is read into it.
-const OLD: Link = Link { number: 7, tail: 7, head: 7, lower: 7, upper: 7, cost: 7 };
+const OLD: Link = Link {
+    number: 7,
+    tail: 7,
+    head: 7,
+    lower: 7,
+    upper: 7,
+    cost: 7,
+};
 
 /// Sees that an entry is as it was before.
 fn is_old(link: &Link) -> Result<(), Fail> {
@@ -36,11 +43,36 @@ fn links_kept(rt: LibcRuntime) -> Result<(), Fail> {
     let heap = rt.alloc();
     reads(heap, b"", 0, "")?;
     reads(heap, b"1; 5; 9; 10; 60; 700\n", 1, "")?;
-    reads(heap, b"1;5;9;10;60;700\n1;9;5;0;0;0\n2;5;10;20160;20160;1000000000\n", 3, "")?;
-    reads(heap, b"1;5;9;10;60;700\n2;5;9;0;0;0\n", 1, "refused 7 links 2")?;
-    reads(heap, b"1;1;2;0;0;0\n1;1;3;0;0;0\n1;1;4;0;0;0\n1;1;5;0;0;0\n", 3, "refused 5 links 0")?;
-    reads(heap, b"1;1;2;0;0;0\n1;1;3;0;0;0\n1;1;4;0;0;0\n1;1;4;0;0;0\n", 3, "refused 5 links 0")?;
-    reads(heap, b"1;1;2;0;0;0\n1;1;3;0;0;0\n1;1;4;0;0;0\n1;1;0;0;0;0\n", 3, "refused 4 links 4")
+    reads(
+        heap,
+        b"1;5;9;10;60;700\n1;9;5;0;0;0\n2;5;10;20160;20160;1000000000\n",
+        3,
+        "",
+    )?;
+    reads(
+        heap,
+        b"1;5;9;10;60;700\n2;5;9;0;0;0\n",
+        1,
+        "refused 7 links 2",
+    )?;
+    reads(
+        heap,
+        b"1;1;2;0;0;0\n1;1;3;0;0;0\n1;1;4;0;0;0\n1;1;5;0;0;0\n",
+        3,
+        "refused 5 links 0",
+    )?;
+    reads(
+        heap,
+        b"1;1;2;0;0;0\n1;1;3;0;0;0\n1;1;4;0;0;0\n1;1;4;0;0;0\n",
+        3,
+        "refused 5 links 0",
+    )?;
+    reads(
+        heap,
+        b"1;1;2;0;0;0\n1;1;3;0;0;0\n1;1;4;0;0;0\n1;1;0;0;0;0\n",
+        3,
+        "refused 4 links 4",
+    )
 }
 
 #[test]

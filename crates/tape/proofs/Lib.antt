@@ -1,0 +1,4 @@
+pub mod Forms
+pub mod Steps
+pub mod Given
+pub mod Held

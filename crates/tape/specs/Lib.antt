@@ -1,0 +1,5 @@
+pub mod Kinds
+pub mod Written
+pub mod Reading
+pub mod Holds
+pub mod Readers

@@ -1,0 +1,3 @@
+//! Tests of the tape reader, at every edge of the format.
+#[cfg(test)]
+mod cases;
