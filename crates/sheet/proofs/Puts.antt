@@ -9,7 +9,7 @@ use Rattle.std.specs.Options.{isSome}
 use Rattle.std.proofs.shelf.Lists.{length-push, length-set, take-more-set, map-push}
 use Rattle.sheet.specs.declared.row.Row.{Row}
 use Rattle.tokens.specs.Text.{numeral}
-use Rattle.sheet.specs.Reading.{numerals, numberOf, numbers}
+use Rattle.sheet.specs.Reading.{numerals, numberIn, numbers}
 use Rattle.sheet.specs.Rows.{Holds}
 
 and-true : (x : Bool) → (x && true) ≡ x
@@ -31,7 +31,7 @@ module _ (row next : Row) (fs : List (List ℕ)) (t : List ℕ) (h : Holds row f
   tested : next .numeric ≡ numerals (fs ++ t ∷ [])
   tested = all ∙ ap (λ b. b && isSome (numeral t)) (h .numeric) ∙ sym (numerals-push fs t)
 
-  pub put-inside : row .count < 8 → next .numbers ≡ set (row .numbers) (row .count) (numberOf t) → Holds next (fs ++ t ∷ [])
+  pub put-inside : row .count < 8 → next .numbers ≡ set (row .numbers) (row .count) (numberIn t) → Holds next (fs ++ t ∷ [])
   put-inside lt e =
       let l = length-push fs t in
       let k = h .count in
@@ -40,13 +40,13 @@ module _ (row next : Row) (fs : List (List ℕ)) (t : List ℕ) (h : Holds row f
       record {
         count = counted;
         numeric = tested;
-        long = ap length e ∙ length-set (row .numbers) (row .count) (numberOf t) ∙ h .long;
+        long = ap length e ∙ length-set (row .numbers) (row .count) (numberIn t) ∙ h .long;
         numbers-are = λ few.
             ap (λ m. take m (next .numbers)) l
-            ∙ ap (take (length fs + 1)) (e ∙ ap (λ m. set (row .numbers) m (numberOf t)) n)
-            ∙ take-more-set (row .numbers) (length fs) (numberOf t) (omega arith)
-            ∙ ap (λ ns. ns ++ numberOf t ∷ []) (h .numbers-are (omega arith))
-            ∙ sym (map-push numberOf fs t);
+            ∙ ap (take (length fs + 1)) (e ∙ ap (λ m. set (row .numbers) m (numberIn t)) n)
+            ∙ take-more-set (row .numbers) (length fs) (numberIn t) (omega arith)
+            ∙ ap (λ ns. ns ++ numberIn t ∷ []) (h .numbers-are (omega arith))
+            ∙ sym (map-push numberIn fs t);
       }
 
   pub put-past : 8 ≤ row .count → next .numbers ≡ row .numbers → Holds next (fs ++ t ∷ [])

@@ -18,7 +18,7 @@ use Rattle.faults.specs.declared.refusal.Refusal.{Refusal}
 use Rattle.faults.specs.declared.fault.Fault.{Fault}
 use Rattle.tokens.specs.Text.{lines, fields, comment, numeral}
 use Rattle.sheet.specs.Rules.{Rules}
-use Rattle.sheet.specs.Reading.{numerals, numberOf, numbers, unless, kept, admitted, judged, goOn, atEnd, readLines, readSheet}
+use Rattle.sheet.specs.Reading.{numerals, numberIn, numbers, unless, kept, admitted, judged, goOn, atEnd, readLines, readSheet}
 use Rattle.sheet.specs.Says.{Numbers, Admits, Rejects, range, full, clash, Gives, Refuses, count, number, record′, Gave, Ends, Says}
 
 some-is : (o : Option ℕ) → isSome o ≡ true → o ≡ Some (valueOr o 0)
@@ -33,7 +33,7 @@ all-numbers : (fs : List (List ℕ)) → numerals fs ≡ true → Numbers fs (nu
 all-numbers [] e = refl
 all-numbers (f ∷ fs) e =
     let p = and-parts (isSome (numeral f)) (numerals fs) e in
-    ap (λ o. o ∷ map numeral fs) (some-is (numeral f) (p .0)) ∙ ap (λ os. Some (numberOf f) ∷ os) (all-numbers fs (p .1))
+    ap (λ o. o ∷ map numeral fs) (some-is (numeral f) (p .0)) ∙ ap (λ os. Some (numberIn f) ∷ os) (all-numbers fs (p .1))
 
 one-not : (fs : List (List ℕ)) → numerals fs ≡ false → (k : ℕ) × (k < length fs) × (numeral (getD fs k []) ≡ None)
 one-not [] e = let z : _≡_ {A = ℕ} 0 1 = cc in absurd (omega arith)

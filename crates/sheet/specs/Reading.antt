@@ -23,12 +23,12 @@ abbrev pub numerals : List (List ℕ) → Bool
 numerals [] = true
 numerals (f ∷ fs) = isSome (numeral f) && numerals fs
 
-abbrev pub numberOf : List ℕ → ℕ
-numberOf f = valueOr (numeral f) 0
+abbrev pub numberIn : List ℕ → ℕ
+numberIn f = valueOr (numeral f) 0
 
 -- the numbers in the fields
 abbrev pub numbers : List (List ℕ) → List ℕ
-numbers fs = map numberOf fs
+numbers fs = map numberIn fs
 
 -- what is still amiss at the end of a sheet with n records
 abbrev pub lacking : {R : Type 0} → Rules R → ℕ → Option Fault
