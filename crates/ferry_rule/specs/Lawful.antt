@@ -1,6 +1,6 @@
 -- That the ferry rule keeps the law of rules and the bounds of cents. Assumes nothing.
 use mathlib.Core.Path.{_≡_, refl, sym, ap}
-use mathlib.Core.Bool.{Bool, true, false, cond}
+use mathlib.Core.Bool.{true}
 use Prim.Native.Nat.{ℕ, _+_, _*_, _≤_}
 use native.Mathlib.Nat.{mul-le-mul}
 use native.Mathlib.Omega.{arith}
@@ -8,6 +8,7 @@ use Rattle.std.specs.Of.Vec.{vec-items}
 use Rattle.std.specs.Options.{Cases}
 use Rattle.std.specs.declared.option.Option.{Option}
 use Rattle.std.specs.declared.option.Option.the-variants.{Some, None}
+use Rattle.lists.specs.Chosen.{chosen}
 use Rattle.walks.specs.Tables.{lengthBetween}
 use Rattle.chart.proofs.Distances.{answer-short}
 use Rattle.trips.specs.declared.trip.Trip.{Trip}
@@ -23,13 +24,9 @@ record Linked (least most factor : ℕ) (a b : Trip) (o : Option ℕ) (n : ℕ) 
   fits : gapWithin (least + minutes) (most + minutes) a b ≡ true
   cents : n ≡ minutes * factor
 
-chosen : (t : Bool) (x n : ℕ) → cond t (Some x) None ≡ Some n → (t ≡ true) × (n ≡ x)
-chosen true x n e = (refl, cc)
-chosen false x n e = let z : _≡_ {A = ℕ} 0 1 = cc in absurd (omega arith)
-
 linked : (least most factor : ℕ) (a b : Trip) (o : Option ℕ) (n : ℕ) → linkBy least most factor a b o ≡ Some n → Linked least most factor a b o n
 linked least most factor a b None n e = let z : _≡_ {A = ℕ} 0 1 = cc in absurd (omega arith)
-linked least most factor a b (Some d) n e = let c = chosen (gapWithin (least + d) (most + d) a b) (d * factor) n e in record { minutes = d; way = refl; fits = c .0; cents = c .1 }
+linked least most factor a b (Some d) n e = let c = chosen (gapWithin (least + d) (most + d) a b) (d * factor) n e in record { minutes = d; way = refl; fits = c .0; cents = sym (c .1) }
 
 -- the yard's ways exist where the trip is served
 record Served (factor : ℕ) (o p : Option ℕ) (y : YardCents) : Type 0 where

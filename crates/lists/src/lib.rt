@@ -1,1 +1,1 @@
-//! Words and lemmas on lists that several crates use; there is no code here.
+//! Words and lemmas on lists and options that several crates use; there is no code here.
