@@ -1,7 +1,5 @@
 //! Edges laid by hand, and charts closed and opened again.
 use chart::DrawnChart;
-use faults::Fault;
-use std::alloc::Global;
 use std::test::*;
 use walks::Edge;
 

@@ -1,6 +1,5 @@
 //! What is printed for edges sheets.
 use distance_report::distance_lines;
-use std::alloc::AllocError;
 use std::alloc::Global;
 use std::fmt::Write;
 use std::test::*;

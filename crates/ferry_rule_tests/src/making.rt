@@ -1,7 +1,6 @@
 //! From what a ferry rule is made.
 use crate::links::harbour_rule;
 use chart::DrawnChart;
-use faults::Fault;
 use faults::FaultDisplay;
 use ferry_rule::FerryRule;
 use ferry_rule::FerryRuleRule;

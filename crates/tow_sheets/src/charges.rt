@@ -4,7 +4,6 @@ ghost use Rattle.tow_sheets.specs.Charges.{charges-rules, Charged};
 use faults::Fault;
 use faults::Layer;
 use faults::Refusal;
-use sheet::Filling;
 use sheet::SheetKind;
 use sheet::fill_sheet;
 

@@ -1,5 +1,4 @@
 //! What the links sheet leaves in a table.
-use faults::Fault;
 use faults::FaultDisplay;
 use std::alloc::Global;
 use std::fmt::Write;
