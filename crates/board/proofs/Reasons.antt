@@ -9,16 +9,14 @@ use lib.ListN.{length}
 use Rattle.std.specs.Options.{isSome}
 use Rattle.std.specs.declared.option.Option.{Option}
 use Rattle.std.specs.declared.option.Option.the-variants.{Some, None}
-use Rattle.std.specs.declared.result.Result.the-variants.{Err}
 use Rattle.std.proofs.shelf.Tests.{and-from, cond-false, leb-false, not-false, not-from-true}
-use Rattle.faults.specs.declared.fault.Fault.{Fault}
 use Rattle.faults.specs.declared.refusal.Refusal.{Refusal}
 use Rattle.faults.specs.declared.refusal.Refusal.the-variants.{TripOutOfRange, NotBeforeArrival, NumberStands, NotServed, BoardFull, NumberDoesNotStand}
 use Rattle.rules.specs.declared.rule.YardCents.{YardCents}
 use Rattle.trips.specs.declared.trip.Trip.{Trip}
 use Rattle.board.specs.Ranges.{inRange, departsFirst}
 use Rattle.board.specs.Lists.{stands}
-use Rattle.board.specs.Refusals.{addRefusal, withdrawRefusal, answer, unlessRefused}
+use Rattle.board.specs.Refusals.{addRefusal, withdrawRefusal}
 
 passed : (b : Bool) (r : Refusal) (rest : Option Refusal) → cond b (Some r) rest ≡ None → (b ≡ false) × (rest ≡ None)
 passed true r rest e = let z : _≡_ {A = ℕ} 0 1 = cc in absurd (omega arith)
@@ -48,8 +46,3 @@ welcome yard ts t e =
 -- a number that stands can be withdrawn
 pub leaves : (ts : List Trip) (n : ℕ) → stands ts n ≡ true → withdrawRefusal ts n ≡ None
 leaves ts n e = cond-false (not (stands ts n)) (Some NumberDoesNotStand) None (not-from-true (stands ts n) e)
-
--- a call that is refused changes nothing
-pub kept-if-refused : {X : Type 0} (o : Option Refusal) (place : ℕ) (f : Fault) (old new : X) → answer o place ≡ Err f → unlessRefused o old new ≡ old
-kept-if-refused None place f old new e = let z : _≡_ {A = ℕ} 0 1 = cc in absurd (omega arith)
-kept-if-refused (Some why) place f old new e = refl

@@ -5,7 +5,7 @@ ghost use Rattle.board.specs.Order.{InOrder, NumbersDiffer};
 ghost use Rattle.board.specs.Ranges.{AllSound};
 use trips::Trip;
 
-pub(crate) mod calls;
+mod calls;
 mod places;
 mod reasons;
 mod view;

@@ -3,4 +3,3 @@
 mod board;
 
 pub use board::Board;
-pub use board::calls::add_then_withdraw;

@@ -3,7 +3,7 @@ use mathlib.Core.Path.{_≡_, sym, ap, _∙_}
 use mathlib.Core.Bool.{Bool, true, false, cond, _&&_}
 use mathlib.Core.List.{List}
 use Prim.Native.Nat.{ℕ, _+_, _-_, _*_, _^_, _≤_, _<_}
-use native.Mathlib.Nat.{pow-suc, pow-le-pow-right}
+use native.Mathlib.Nat.{pow-suc}
 use native.Mathlib.Numerals.{add-one}
 use native.Mathlib.Omega.{arith}
 use lib.Dec.{leb}
@@ -65,13 +65,6 @@ module _ (bs : List ℕ) (i sum : ℕ) (h : i < length bs) where
 
 pub pow-more : (sum i b : ℕ) → sum < 10 ^ i → 48 ≤ b → b ≤ 57 → sum * 10 + (b - 48) < 10 ^ (i + 1)
 pow-more sum i b h lo hi = let e : 10 ^ (i + 1) ≡ 10 ^ i * 10 = ap (λ k. 10 ^ k) (add-one i) ∙ pow-suc 10 i in omega arith
-
-pub pow-room : (sum i : ℕ) → sum < 10 ^ i → i < 10 → sum < 1000000000
-pow-room sum i h lt =
-    let z : 0 < 10 = omega arith in
-    let le : i ≤ 9 = omega arith in
-    let m : 10 ^ i ≤ 10 ^ 9 = pow-le-pow-right z le in
-    omega arith
 
 pub decimal-yes : (bs : List ℕ) (n : ℕ) → allDigits bs ≡ true → decimalAfter 0 bs ≡ n → Some n ≡ cond (allDigits bs) (Some (decimalAfter 0 bs)) None
 decimal-yes bs n digits e = ap Some (sym e) ∙ sym (cond-true (allDigits bs) (Some (decimalAfter 0 bs)) None digits)

@@ -77,14 +77,3 @@ impl Board {
         Ok(())
     }
 }
-
-/// Adds a trip and withdraws it again, which leaves the board as it was: so it answers whether the
-/// trip could be added.
-pub fn add_then_withdraw<R: Rule>(board: &mut Board, rule: &R, trip: Trip) -> Result<(), Fault>
-    ensures answer { λ r. ⌜ r ≡ answer (addRefusal (R·Rule .yard (now (rule .entry))) (tripsOf (now (board .entry))) trip) (trip .number) ⌝ }
-    ensures trips { λ _. ⌜ tripsOf (now (board .exit)) ≡ tripsOf (now (board .entry)) ⌝ }
-    ensures limit { λ _. ⌜ limitOf (now (board .exit)) ≡ limitOf (now (board .entry)) ⌝ }
-{
-    board.add(rule, trip)?;
-    board.withdraw(trip.number)
-}
