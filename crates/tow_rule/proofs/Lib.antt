@@ -1,0 +1,5 @@
+pub mod Places
+pub mod Entries
+pub mod Twice
+pub mod Entering
+pub mod Allowing

@@ -1,0 +1,5 @@
+//! Tests of the tow rule.
+#[cfg(test)]
+mod links;
+#[cfg(test)]
+mod making;
