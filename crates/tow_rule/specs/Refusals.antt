@@ -22,11 +22,11 @@ use Rattle.tow_rule.specs.declared.unmade.Unmade.the-variants.{Refused, NoMemo
 abbrev pub linkInRange : Link → Bool
 linkInRange l = inRange (l .number) (l .tail) (l .head) (l .lower) (l .upper) (l .cost)
 
--- some number of a link is not
+-- some number of a link is out of its range
 abbrev pub outside : Link → Bool
 outside l = not (linkInRange l)
 
--- some pair of trips stands in the list again
+-- some pair of trips is listed twice: a link has the same tail and head as one before it
 abbrev pub listedTwice : List Link → Bool
 listedTwice [] = false
 listedTwice (l ∷ ls) = some-pass (λ k. samePair k l) ls || listedTwice ls
@@ -35,7 +35,7 @@ listedTwice (l ∷ ls) = some-pass (λ k. samePair k l) ls || listedTwice ls
 abbrev pub linksRefusal : List Link → Option Refusal
 linksRefusal links = cond (some-pass outside links) (Some OutOfRange) (cond (listedTwice links) (Some ListedTwice) None)
 
--- the sums for the way out and the way home: one of them above 1,000,000,000 cents
+-- the sum for the way out or for the way home is above 1,000,000,000 cents
 abbrev pub sumsOutside : ℕ → ℕ → Bool
 sumsOutside out home = not (leb out 1000000000 && leb home 1000000000)
 

@@ -10,11 +10,6 @@ use tow_rule::TowRuleRule;
 use tow_sheets::Link;
 use trips::Trip;
 
-/// A tow that leaves berth 1 for berth 2.
-fn tow(number: u16, departure: u16, arrival: u16) -> Trip {
-    Trip::new(number, 1, departure, 2, arrival)
-}
-
 /// Two links, from trip 7 to trip 3 within 10 to 40 minutes and from trip 3 to trip 9 at once.
 pub(crate) fn two_links() -> [Link; 2] {
     [
@@ -44,46 +39,50 @@ pub(crate) fn rule_of(heap: Global, links: &[Link]) -> Result<TowRule<'_>, Fail>
     Ok(rule)
 }
 
+/// Sees at which cents a trip that departs then follows one that arrives at 100.
+pub(crate) fn follows<R: Rule>(
+    rule: &R,
+    tail: u16,
+    head: u16,
+    departure: u16,
+    cents: Option<u32>,
+) -> Result<(), Fail> {
+    let first = Trip::new(tail, 1, 50, 2, 100);
+    let next = Trip::new(head, 2, departure, 1, 20160);
+    check_eq(rule.link_cents(&first, &next), cents)
+}
+
+/// Sees what the rule charges for the ways out and home.
+pub(crate) fn charges<R: Rule>(rule: &R, out: u32, home: u32) -> Result<(), Fail> {
+    let Some(yard) = rule.yard_cents(&Trip::new(5, 1, 50, 2, 100)) else {
+        return Err(Fail::new("the trip is not served"));
+    };
+    check_eq(yard.out, out)?;
+    check_eq(yard.home, home)
+}
+
 #[test]
 fn gaps(rt: LibcRuntime) -> Result<(), Fail> {
     let links = two_links();
     let rule = rule_of(rt.alloc(), &links)?;
-    let first = tow(7, 50, 100);
-    check_eq(rule.link_cents(&first, &tow(3, 109, 200)), None)?;
-    check_eq(rule.link_cents(&first, &tow(3, 110, 200)), Some(250))?;
-    check_eq(rule.link_cents(&first, &tow(3, 140, 200)), Some(250))?;
-    check_eq(rule.link_cents(&first, &tow(3, 141, 200)), None)?;
-    check_eq(rule.link_cents(&first, &tow(3, 99, 200)), None)?;
-    check_eq(rule.link_cents(&first, &tow(3, 0, 200)), None)
-}
-
-#[test]
-fn no_minute_between(rt: LibcRuntime) -> Result<(), Fail> {
-    let links = two_links();
-    let rule = rule_of(rt.alloc(), &links)?;
-    let first = tow(3, 50, 100);
-    check_eq(rule.link_cents(&first, &tow(9, 99, 200)), None)?;
-    check_eq(rule.link_cents(&first, &tow(9, 100, 200)), Some(1))?;
-    check_eq(rule.link_cents(&first, &tow(9, 101, 200)), None)
+    follows(&rule, 7, 3, 109, None)?;
+    follows(&rule, 7, 3, 110, Some(250))?;
+    follows(&rule, 7, 3, 140, Some(250))?;
+    follows(&rule, 7, 3, 141, None)?;
+    follows(&rule, 3, 9, 99, None)?;
+    follows(&rule, 3, 9, 100, Some(1))?;
+    follows(&rule, 3, 9, 101, None)?;
+    follows(&rule, 3, 9, 0, None)
 }
 
 #[test]
 fn pairs(rt: LibcRuntime) -> Result<(), Fail> {
     let links = two_links();
     let rule = rule_of(rt.alloc(), &links)?;
-    check_eq(rule.link_cents(&tow(3, 50, 100), &tow(7, 120, 200)), None)?;
-    check_eq(rule.link_cents(&tow(7, 50, 100), &tow(9, 100, 200)), None)?;
-    check_eq(rule.link_cents(&tow(7, 50, 100), &tow(7, 120, 200)), None)?;
-    check_eq(rule.link_cents(&tow(1, 50, 100), &tow(2, 120, 200)), None)
-}
-
-/// Sees what the rule charges for the ways out and home.
-pub(crate) fn charges(rule: &TowRule<'_>, out: u32, home: u32) -> Result<(), Fail> {
-    let Some(yard) = rule.yard_cents(&tow(5, 50, 65)) else {
-        return Err(Fail::new("the trip is not served"));
-    };
-    check_eq(yard.out, out)?;
-    check_eq(yard.home, home)
+    follows(&rule, 3, 7, 120, None)?;
+    follows(&rule, 7, 9, 100, None)?;
+    follows(&rule, 7, 7, 120, None)?;
+    follows(&rule, 1, 2, 120, None)
 }
 
 #[test]
@@ -96,11 +95,10 @@ fn yard_legs(rt: LibcRuntime) -> Result<(), Fail> {
 fn capped(rt: LibcRuntime) -> Result<(), Fail> {
     let links = two_links();
     let rule = Cap::new(rule_of(rt.alloc(), &links)?, 30);
-    let first = tow(7, 50, 100);
-    check_eq(rule.link_cents(&first, &tow(3, 109, 200)), None)?;
-    check_eq(rule.link_cents(&first, &tow(3, 130, 200)), Some(250))?;
-    check_eq(rule.link_cents(&first, &tow(3, 131, 200)), None)?;
-    check(rule.yard_cents(&first).is_some())
+    follows(&rule, 7, 3, 109, None)?;
+    follows(&rule, 7, 3, 130, Some(250))?;
+    follows(&rule, 7, 3, 131, None)?;
+    charges(&rule, 500, 300)
 }
 
 /// The n-th of many links, whose tails fall while their heads go round: after n minutes, for n cents.
@@ -127,20 +125,15 @@ fn fill(table: &mut [Link]) {
 /// Sees that the n-th link is found, and links trips just at its gap.
 fn finds_nth(rule: &TowRule<'_>, n: u16) -> Result<(), Fail> {
     let link = nth_link(n);
-    let first = tow(link.tail, 0, 100);
-    let cents = Some(link.cost);
-    check_eq(
-        rule.link_cents(&first, &tow(link.head, n.saturating_add(100), 20160)),
-        cents,
+    follows(
+        rule,
+        link.tail,
+        link.head,
+        n.saturating_add(100),
+        Some(link.cost),
     )?;
-    check_eq(
-        rule.link_cents(&first, &tow(link.head, n.saturating_add(99), 20160)),
-        None,
-    )?;
-    check_eq(
-        rule.link_cents(&first, &tow(8, n.saturating_add(100), 20160)),
-        None,
-    )
+    follows(rule, link.tail, link.head, n.saturating_add(99), None)?;
+    follows(rule, link.tail, 8, n.saturating_add(100), None)
 }
 
 #[test]
@@ -151,29 +144,19 @@ fn many_links(rt: LibcRuntime) -> Result<(), Fail> {
     for n in 1..2001 {
         finds_nth(&rule, n)?;
     }
-    check_eq(
-        rule.link_cents(&tow(65535, 0, 100), &tow(1, 100, 200)),
-        None,
-    )?;
-    check_eq(
-        rule.link_cents(&tow(63534, 0, 100), &tow(7, 2101, 2200)),
-        None,
-    )
+    follows(&rule, 65535, 1, 100, None)?;
+    follows(&rule, 63534, 7, 2101, None)
 }
 
 #[test]
 fn looked_up(rt: LibcRuntime) -> Result<(), Fail> {
-    let heap = rt.alloc();
     let links = two_links();
-    let Ok(listed) = ListedLinks::new(heap, &links) else {
+    let Ok(listed) = ListedLinks::new(rt.alloc(), &links) else {
         return Err(Fail::new("the links are not listed"));
     };
     let Some(link) = listed.look_up(7, 3) else {
         return Err(Fail::new("the link is not found"));
     };
     check_eq(link.number, 1)?;
-    check_eq(link.cost, 250)?;
-    check(listed.look_up(3, 7).is_none())?;
-    check(listed.look_up(3, 9).is_some())?;
-    check(ListedLinks::none(heap).look_up(7, 3).is_none())
+    check(listed.look_up(3, 7).is_none())
 }

@@ -1,16 +1,15 @@
 //! From what a tow rule is made.
 use crate::links::charges;
+use crate::links::follows;
 use crate::links::rule_of;
 use crate::links::two_links;
 use faults::FaultDisplay;
-use rules::Rule;
 use std::alloc::Global;
 use std::test::*;
 use tow_rule::TowRule;
 use tow_rule::TowRuleRule;
 use tow_rule::Unmade;
 use tow_sheets::Link;
-use trips::Trip;
 
 /// A link with the least that its numbers may be.
 const LEAST: Link = Link {
@@ -38,11 +37,7 @@ fn keeps<'x>(
         Err(Unmade::NoMemory) => Err(Fail::new("there was no memory")),
         Err(Unmade::Refused(fault)) => {
             check_eq(fault.to_string(heap)?.as_str(), shown)?;
-            let first = Trip::new(7, 1, 50, 2, 100);
-            check_eq(
-                rule.link_cents(&first, &Trip::new(3, 2, 110, 1, 200)),
-                Some(250),
-            )?;
+            follows(&rule, 7, 3, 110, Some(250))?;
             charges(&rule, 500, 300)
         }
     }
@@ -159,9 +154,8 @@ fn turned_round(rt: LibcRuntime) -> Result<(), Fail> {
 #[test]
 fn built_in(rt: LibcRuntime) -> Result<(), Fail> {
     let rule = TowRule::new(rt.alloc());
-    let trip = Trip::new(1, 0, 50, 1, 65);
     charges(&rule, 0, 0)?;
-    check_eq(rule.link_cents(&trip, &Trip::new(2, 1, 65, 1, 70)), None)
+    follows(&rule, 1, 2, 100, None)
 }
 
 #[test]
@@ -175,11 +169,7 @@ fn made_again(rt: LibcRuntime) -> Result<(), Fail> {
     }];
     let mut rule = rule_of(rt.alloc(), &two)?;
     check(rule.remake(&one, 1, 2).is_ok())?;
-    let first = Trip::new(7, 1, 50, 2, 100);
-    check_eq(
-        rule.link_cents(&first, &Trip::new(3, 2, 100, 1, 200)),
-        Some(8),
-    )?;
-    check_eq(rule.link_cents(&first, &Trip::new(3, 2, 110, 1, 200)), None)?;
+    follows(&rule, 7, 3, 100, Some(8))?;
+    follows(&rule, 7, 3, 110, None)?;
     charges(&rule, 1, 2)
 }
