@@ -31,3 +31,15 @@ pub fn read_input(rt: &LibcRuntime, name: &str) -> io::Result<Vec<u8>>
         }
     }
 }
+
+#[cfg(test)]
+mod tests {
+    use super::*;
+    use std::test::*;
+
+    #[test]
+    fn a_missing_file_is_empty(rt: LibcRuntime) -> Result<(), Fail> {
+        let bytes = read_input(&rt, "no-such-file")?;
+        check_eq(bytes.len(), 0)
+    }
+}
