@@ -34,7 +34,7 @@ PiecesOf line (p ∷ ps) = All (Lacks 59) (p ∷ ps) × (line ≡ joinedBy p ps)
 abbrev pub Trims : List ℕ → List ℕ → Type 0
 Trims f t = ((m : ℕ) × (n : ℕ) × (f ≡ replicate m 32 ++ (t ++ replicate n 32))) × (getD t 0 0 ≡ 32 → ⊥) × (getD t (length t - 1) 0 ≡ 32 → ⊥)
 
--- the definitions are these and no other
+-- lines and fields are cut so, and in no other way; a trimmed text is its field without the spaces around it
 pub record CutRightly : Type 0 where
   pub lines-are : (sheet : List ℕ) → LinesOf sheet (lines sheet)
   pub lines-only : (sheet : List ℕ) (ls : List (List ℕ)) → LinesOf sheet ls → ls ≡ lines sheet

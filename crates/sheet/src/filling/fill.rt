@@ -9,7 +9,7 @@ use crate::listing::list::lack_of_records;
 use faults::Refusal;
 use tokens::Reader;
 
-/// Reads a sheet of at most 60,000 bytes into the table.
+/// What `fill_sheet` does.
 fn fill_table<K: SheetKind>(kind: &K, sheet: &[u8], table: &mut [K::Record]) -> Filling
     ensures { λ r. ⌜ Fills (rules (now (kind .entry))) (now (sheet .entry)) (now (table .entry)) (r .count) (r .fault) (now (table .exit)) ⌝ }
 {

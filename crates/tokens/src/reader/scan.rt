@@ -54,7 +54,7 @@ impl<'a> Reader<'a> {
     }
 
     /// A reader at the start of a sheet. It will hand on the tokens of the sheet's lines and fields,
-    /// which are what the format says, and nothing else.
+    /// which are cut as the format says.
     pub fn new(sheet: &'a [u8]) -> Reader<'a>
         ensures tokens { λ r. ⌜ left r ≡ tokensOf (now (sheet .entry)) ⌝ }
         ensures format { λ _. ⌜ CutRightly ⌝ }
