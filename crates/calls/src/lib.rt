@@ -1,4 +1,6 @@
 //! Calls on a board, and what they answer.
+#![tactic(auto)]
+
 mod answer;
 mod call;
 

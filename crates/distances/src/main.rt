@@ -1,4 +1,6 @@
 //! Prints the least distances between the berths of the sheet `edges`, or why it is refused.
+#![tactic(auto)]
+
 use distance_report::distance_lines;
 use inputs::read_input;
 

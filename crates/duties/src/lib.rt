@@ -1,1 +1,3 @@
 //! Duties, covers, their costs and prices: definitions and lemmas, no code.
+#![tactic(auto)]
+

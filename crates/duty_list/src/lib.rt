@@ -2,6 +2,8 @@
 //!
 //! A table of any length and with any entries has duties: an entry that does not lead to a later
 //! position of the table ends its duty.
+#![tactic(auto)]
+
 mod along;
 mod firsts;
 

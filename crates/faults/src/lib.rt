@@ -2,6 +2,8 @@
 //!
 //! Every layer speaks of its refusals in this one vocabulary, so that a fault keeps its number,
 //! layer and place unchanged on its way up.
+#![tactic(auto)]
+
 mod fault;
 mod layer;
 mod refusal;

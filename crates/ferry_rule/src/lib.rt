@@ -1,5 +1,7 @@
 //! The ferry office's connection rule: a link takes the way by the chart, within the times for
 //! turning round and for waiting.
+#![tactic(auto)]
+
 mod facts;
 mod making;
 mod rule;

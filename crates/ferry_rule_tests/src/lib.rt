@@ -1,4 +1,6 @@
 //! Tests of the ferry rule.
+#![tactic(auto)]
+
 #[cfg(test)]
 mod links;
 #[cfg(test)]

@@ -1,4 +1,6 @@
 //! The files that a program reads.
+#![tactic(auto)]
+
 ghost use Rattle.std.specs.Prelude.{◌≤◌, IfOk, vec_len};
 
 use std::fs::File;

@@ -1,4 +1,6 @@
 //! The cheapest duties for the trips that stand on a board, for every rule and every tariff.
+#![tactic(auto)]
+
 mod checks;
 mod day;
 mod outcome;

@@ -1,4 +1,6 @@
 //! Any list of calls on a new board, and who hears of them.
+#![tactic(auto)]
+
 mod listener;
 mod obey;
 mod run;

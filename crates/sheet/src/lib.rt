@@ -1,5 +1,7 @@
 //! The one reader of sheets. What differs from sheet to sheet (which field counts it takes, its
 //! ranges, its own tests, how many records) is a `SheetKind`; all else is here, once.
+#![tactic(auto)]
+
 mod admission;
 mod filling;
 mod kind;

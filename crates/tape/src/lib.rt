@@ -2,6 +2,8 @@
 //!
 //! The reader hands on the commands one by one, up to the first fault, and then that fault. What the
 //! operands say is not looked at here.
+#![tactic(auto)]
+
 mod command;
 mod kind;
 mod reader;

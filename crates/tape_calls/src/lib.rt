@@ -1,4 +1,6 @@
 //! A tape's bytes as calls on a board.
+#![tactic(auto)]
+
 mod reading;
 mod tape_calls;
 

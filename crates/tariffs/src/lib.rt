@@ -1,4 +1,6 @@
 //! Tariffs: what opening a duty, a link and coming home are worth, as rows.
+#![tactic(auto)]
+
 mod amounts;
 mod cents;
 mod hulls_first;

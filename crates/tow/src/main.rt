@@ -1,4 +1,6 @@
 //! Plans the tows of a tape of calls: reads the files `charges`, `links` and `tape`, and prints what each call answers.
+#![tactic(auto)]
+
 use inputs::read_input;
 use tow_report::tow_lines;
 

@@ -1,4 +1,6 @@
 //! The tow office's two sheets, and the tow rule that is made from them.
+#![tactic(auto)]
+
 mod making;
 mod reading;
 mod sound;

@@ -1,5 +1,7 @@
 //! The tow office's connection rule: a tow follows another where the list of links has the two and
 //! the time between them fits.
+#![tactic(auto)]
+
 mod facts;
 mod index;
 mod listed;

@@ -1,4 +1,6 @@
 //! The two sheets of the tow office: which tow may follow which, and what the yard charges.
+#![tactic(auto)]
+
 mod charges;
 mod links;
 

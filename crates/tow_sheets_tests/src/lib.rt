@@ -1,4 +1,6 @@
 //! Tests of the links and charges sheets.
+#![tactic(auto)]
+
 #[cfg(test)]
 mod charges;
 #[cfg(test)]

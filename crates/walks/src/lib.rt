@@ -1,4 +1,6 @@
 //! The least lengths of walks along fairways, edges between 32 berths.
+#![tactic(auto)]
+
 mod direct;
 mod edge;
 mod rounds;
