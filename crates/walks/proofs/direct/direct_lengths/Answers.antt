@@ -10,11 +10,11 @@ loop-edge-init c =
 
 pub loop-edge-preserved : goal.loop-edge-preserved
 loop-edge-preserved c =
-    let more = laid_more c.args.edges.now c.loop-edge.edge_index c.loop-edge.lengths c.lay-edge.new.lengths (omega arith) c.loop-edge.invariant.1 c.lay-edge.ensures.laid in
-    (c.lay-edge.ensures.laid.long ∙ c.loop-edge.invariant.0, more, c.lay-edge.ensures.short c.loop-edge.invariant.2)
+    let more = laid_more c.args.edges.now c.loop-edge.edge-index c.loop-edge.lengths c.lay_edge.new.lengths (omega arith) c.loop-edge.invariant.1 c.lay_edge.ensures.laid in
+    (c.lay_edge.ensures.laid.long ∙ c.loop-edge.invariant.0, more, c.lay_edge.ensures.short c.loop-edge.invariant.2)
 
 pub returns : goal.returns
 returns c = record {
-  direct = laid_all c.args.edges.now c.loop-edge.edge_index c.loop-edge.lengths (omega arith) c.loop-edge.invariant.1;
+  direct = laid_all c.args.edges.now c.loop-edge.edge-index c.loop-edge.lengths (omega arith) c.loop-edge.invariant.1;
   short = c.loop-edge.invariant.2;
 }

@@ -8,18 +8,18 @@ use Rattle.walks.proofs.rounds.settle.Goals as goal
 pub loop-by-init : goal.loop-by-init
 loop-by-init c = (λ es g. g, λ w. w)
 
-pub try-ways-requires : goal.try-ways-requires
-try-ways-requires c =
-    let start = stands_within c.args.lengths.now c.stand-still.new.lengths c.stand-still.ensures 65535 c.requires.1 in
-    (c.loop-by.auto.lengths ∙ c.stand-still.ensures.long ∙ c.requires.0, c.loop-by-test.true, round_fits c.loop-by.by c.loop-by.lengths c.loop-by-test.true (c.loop-by.invariant.1 start))
+pub try_ways-requires : goal.try_ways-requires
+try_ways-requires c =
+    let start = stands_within c.args.lengths.now c.stand_still.new.lengths c.stand_still.ensures 65535 c.requires.1 in
+    (c.loop-by.auto.lengths ∙ c.stand_still.ensures.long ∙ c.requires.0, c.loop-by-test.true, round_fits c.loop-by.by c.loop-by.lengths c.loop-by-test.true (c.loop-by.invariant.1 start))
 
 pub loop-by-preserved : goal.loop-by-preserved
 loop-by-preserved c = (
-  λ es g. settled_more es c.loop-by.by (at c.loop-by.lengths) (at c.try-ways.new.lengths) c.loop-by-test.true (c.loop-by.invariant.0 es g) c.try-ways.ensures.rows,
-  λ w. round_within c.loop-by.by c.loop-by.lengths c.try-ways.new.lengths c.loop-by-test.true c.try-ways.ensures (c.loop-by.invariant.1 w),
+  λ es g. settled_more es c.loop-by.by (at c.loop-by.lengths) (at c.try_ways.new.lengths) c.loop-by-test.true (c.loop-by.invariant.0 es g) c.try_ways.ensures.rows,
+  λ w. round_within c.loop-by.by c.loop-by.lengths c.try_ways.new.lengths c.loop-by-test.true c.try_ways.ensures (c.loop-by.invariant.1 w),
 )
 
 pub returns : goal.returns
 returns c = λ es d.
-    let g = c.loop-by.invariant.0 es (stands_settled c.args.lengths.now c.stand-still.new.lengths c.stand-still.ensures es d) in
+    let g = c.loop-by.invariant.0 es (stands_settled c.args.lengths.now c.stand_still.new.lengths c.stand_still.ensures es d) in
     settled_table es c.loop-by.lengths (subst (λ k. Settled es k (at c.loop-by.lengths)) (omega arith) g)

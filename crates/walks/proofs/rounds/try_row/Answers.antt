@@ -2,8 +2,8 @@ use Rattle.std.proofs.Common.{sym, ◌∙◌}
 use Rattle.walks.proofs.Rows.{row_reads, row_more}
 use Rattle.walks.proofs.rounds.try_row.Goals as goal
 
-pub try-way-requires : goal.try-way-requires
-try-way-requires c =
+pub try_way-requires : goal.try_way-requires
+try_way-requires c =
     let same = row_reads c.args.by c.args.from c.loop-to.to c.args.lengths.now c.loop-to.lengths c.requires.1 c.requires.2 c.loop-to-test.true c.loop-to.invariant in
     record {
       berths = (c.loop-to.invariant.long ∙ c.requires.0, c.requires.2, c.requires.1, c.loop-to-test.true);
@@ -13,4 +13,4 @@ try-way-requires c =
 pub loop-to-preserved : goal.loop-to-preserved
 loop-to-preserved c =
     row_more c.args.by c.args.from c.loop-to.to c.args.lengths.now c.loop-to.lengths c.requires.1 c.requires.2 c.loop-to-test.true c.loop-to.invariant
-    c.in-Some.first c.try-way.new.lengths c.requires.0 c.in-Some.is c.try-way.ensures
+    c.in-Some.first c.try_way.new.lengths c.requires.0 c.in-Some.is c.try_way.ensures

@@ -9,6 +9,6 @@ pub returns : goal.returns
 returns c =
     let P : Reader → Type 0 = λ s. left c.args.self.now ≡ word c.trim-text.result.now s.line s.field ∷ left s in
     elim c.if-end-body.branch [
-      | then-end-body w ↦ subst P (sym w.self-is) (field_last _ c.requires _ _ _ _ _ c.after-self.result.now _ c.bytes-before-end.ensures.value c.trim-text.ensures (omega (arith, w.if-end-body.true)))
-      | else-end-body w ↦ subst P (sym w.self-is) (field_more _ c.requires _ _ _ _ _ _ _ c.bytes-before-end.ensures.value c.trim-text.ensures (omega (arith, w.if-end-body.false, c.bytes-before-end.ensures.bound)) c.after-self.ensures.value)
+      | then-end-body w ↦ subst P (sym w.self-is) (field_last _ c.requires _ _ _ _ _ c.after-self.result.now _ c.bytes_before-end.ensures.value c.trim-text.ensures (omega (arith, w.if-end-body.true)))
+      | else-end-body w ↦ subst P (sym w.self-is) (field_more _ c.requires _ _ _ _ _ _ _ c.bytes_before-end.ensures.value c.trim-text.ensures (omega (arith, w.if-end-body.false, c.bytes_before-end.ensures.bound)) c.after-self.ensures.value)
     ]
