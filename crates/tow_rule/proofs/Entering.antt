@@ -10,7 +10,7 @@ use Rattle.tow_rule.specs.Indexing.{IndexOf, Entered, Indexed}
 use Rattle.tow_rule.specs.Refusals.{listed_twice}
 use Rattle.tow_rule.proofs.Twice.{twice_here, once_more}
 
-module _ {Z : Type 0} (links : List Link) where
+module _ (links : List Link) where
   -- the first i links are in the index, and no pair stands twice among them
   abbrev pub Sofar : ℕ → BTreeMap (ℕ × ℕ) ℕ → Type 0
   Sofar i index = (listed_twice (take i links) ≡ false) × IndexOf (take i links) index
@@ -24,7 +24,7 @@ module _ {Z : Type 0} (links : List Link) where
         let more = entered (take i links) (length-take-le i links (omega arith)) sofar.1 in
         subst (λ ls. (listed_twice ls ≡ false) × IndexOf ls n) (sym (take_more links i no_link here)) (once_more (take i links) (get_or links i no_link) sofar.0 more.0, more.1)
 
-    pub not_entered : (e : Unmade) → Entered m (get_or links i no_link) i (Err e) n → Indexed {Z = Z} links (Err e)
+    pub not_entered : (e : Unmade) → Entered m (get_or links i no_link) i (Err e) n → Indexed links (Err e)
     not_entered (Refused f) entered =
         let around = ap (λ rest. take i links ++ rest) (sym (drop_more links i no_link here)) ∙ take-append-drop i links in
         (entered.0, ap listed_twice (sym around) ∙ twice_here (take i links) (get_or links i no_link) (drop (i + 1) links) (entered.1 (take i links) sofar.1))

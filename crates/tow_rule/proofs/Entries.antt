@@ -1,38 +1,29 @@
 -- One more link entered into the index of those before it. Assumes nothing.
 use Rattle.std.proofs.Common.{◌≡◌, ℕ, suc, ◌<◌, Bool, true, false, cond, ◌&&◌, ◌||◌, eqb, List, [], ◌∷◌, ◌++◌, length, is_some, Some, None, Option, Ordering, Less, Equal, Greater, sym, refl, ap, ◌∙◌, arith}
-use Rattle.std.proofs.lemmas.Map.Invariant.{btree-map-from-valid, valid-from-btree-map}
 use Rattle.std.proofs.lemmas.Bool.{true≢false, eqb-true, and_parts}
 use Rattle.std.proofs.lemmas.Bool.Decides.{nat_tests}
-use Rattle.std.specs.BTreeMap.{Gets, Updates}
-use Rattle.std.specs.Cmp.{pairs, nat_cmp_total, unsigned_tied, then_total, on_total}
-use Rattle.std.specs.Ordering.{eq_by_cmp, is_eq, ordering_then, MatchOrdering, Then, nat_cmp}
+use Rattle.std.specs.BTreeMap.{BTreeMap, Updates, get}
+use Rattle.std.specs.Cmp.{unsigned_tied, tied_then}
+use Rattle.std.specs.Ordering.{is_eq, ordering_then, nat_cmp}
 use Rattle.std.specs.Option.{option_map, option_to_list}
-use Rattle.std.specs.BTreeMap.{BTreeMap}
 use Rattle.lists.specs.Some.{some_pass}
 use Rattle.tow_sheets.specs.declared.links.Link.{Link}
 use Rattle.tow_sheets.specs.Links.{same_pair}
 use Rattle.tow_rule.specs.Indexing.{IndexOf}
 use Rattle.tow_rule.specs.Listed.{is_of_pair}
-use Rattle.tow_rule.specs.Places.{place_of}
+use Rattle.tow_rule.specs.Places.{InOrder, place_of}
 use Rattle.tow_rule.proofs.Places.{same_option}
-
--- how keys are compared: by tail and then by head
-abbrev ByPair : ℕ × ℕ → ℕ × ℕ → Ordering → Type 0
-ByPair x y = Then (λ r. MatchOrdering r (x.0 < y.0) (x.0 ≡ y.0) (y.0 < x.0)) (λ r. MatchOrdering r (x.1 < y.1) (x.1 ≡ y.1) (y.1 < x.1))
-
--- keys are tied where both their numbers are equal
-both_tied : (a b : Ordering) → is_eq (ordering_then a b) ≡ (is_eq a && is_eq b)
-both_tied Less b = refl
-both_tied Equal b = refl
-both_tied Greater b = refl
 
 pub eqb_flip : (x y : ℕ) → eqb x y ≡ eqb y x
 eqb_flip x y = grind (arith, nat_tests)
 
-tied_pair : (tail head : ℕ) (l : Link) → eq_by_cmp (λ x y. ordering_then (nat_cmp x.0 y.0) (nat_cmp x.1 y.1)) (tail, head) (l.tail, l.head) ≡ is_of_pair tail head l
-tied_pair tail head l =
-    both_tied (nat_cmp tail l.tail) (nat_cmp head l.head)
-    ∙ (λ i. (unsigned_tied tail l.tail ∙ eqb_flip tail l.tail) i && (unsigned_tied head l.head ∙ eqb_flip head l.head) i)
+-- keys are compared by tail and then by head
+abbrev by_pair : ℕ × ℕ → ℕ × ℕ → Ordering
+by_pair x y = ordering_then (nat_cmp x.0 y.0) (nat_cmp x.1 y.1)
+
+-- keys are tied where both their numbers are equal
+tied_pair : (tail head : ℕ) (l : Link) → is_eq (by_pair (l.tail, l.head) (tail, head)) ≡ is_of_pair tail head l
+tied_pair tail head l = sym (tied_then (nat_cmp l.tail tail) (nat_cmp l.head head)) ∙ (λ i. unsigned_tied l.tail tail i && unsigned_tied l.head head i)
 
 -- a pair that stands in a list has a place there
 some_placed : (t : Bool) (p : Bool) (o : Option ℕ) → p ≡ is_some o → (t || p) ≡ is_some (cond t (Some 0) (option_map suc o))
@@ -80,16 +71,12 @@ nothing (Some i) e = absurd (true≢false e)
 
 module _ (m : BTreeMap (ℕ × ℕ) ℕ) (l : Link) (ls : List Link) (index : IndexOf ls m) where
   -- what is found at the link's pair says whether that stands in the list already
-  pub found_before : (o : Option ℕ) → Gets ByPair m (l.tail, l.head) o → some_pass (λ k. same_pair k l) ls ≡ is_some o
-  found_before o finds =
-      let at_pair = finds (then_total (on_total (λ p. p.0) nat_cmp_total) (on_total (λ p. p.1) nat_cmp_total)) (btree-map-from-valid (λ x y. ordering_then (nat_cmp x.0 y.0) (nat_cmp x.1 y.1)) m index.0) in
-      stands_somewhere ls l.tail l.head ∙ ap is_some (sym (at_pair ∙ same_option _ _ (index.1 l.tail l.head)))
+  pub found_before : (o : Option ℕ) → o ≡ get by_pair m (l.tail, l.head) → some_pass (λ k. same_pair k l) ls ≡ is_some o
+  found_before o found = stands_somewhere ls l.tail l.head ∙ ap is_some (sym (found ∙ same_option _ _ (index.1 l.tail l.head)))
 
-  pub one_more : (n : BTreeMap (ℕ × ℕ) ℕ) (place : ℕ) → length ls ≡ place → some_pass (λ k. same_pair k l) ls ≡ false → Updates ByPair m n (l.tail, l.head) (Some place) → IndexOf (ls ++ l ∷ []) n
-  one_more n place long new sets =
-      let o = pairs nat_cmp_total nat_cmp_total in
-      let put = sets o (btree-map-from-valid o m index.0) in
+  pub one_more : (n : BTreeMap (ℕ × ℕ) ℕ) (place : ℕ) → length ls ≡ place → some_pass (λ k. same_pair k l) ls ≡ false → Updates by_pair m n (l.tail, l.head) (Some place) → InOrder n → IndexOf (ls ++ l ∷ []) n
+  one_more n place long new put ordered =
       let none = nothing (place_of ls l.tail l.head) (sym (stands_somewhere ls l.tail l.head) ∙ new) in (
-        valid-from-btree-map o n put.0,
-        λ tail head. ap option_to_list (put.1 (tail, head) ∙ (λ i. cond (tied_pair tail head l i) (Some (sym long i)) (same_option _ _ (index.1 tail head) i)) ∙ sym (place_push ls l tail head none)),
+        ordered,
+        λ tail head. ap option_to_list (put.0 (tail, head) ∙ (λ i. cond (tied_pair tail head l i) (Some (sym long i)) (same_option _ _ (index.1 tail head) i)) ∙ sym (place_push ls l tail head none)),
       )

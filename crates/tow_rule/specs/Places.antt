@@ -1,9 +1,7 @@
 -- Where the link of a pair of trips stands in a list, and the index that has these places. Assumes nothing.
 use Rattle.std.specs.Prelude.{◌≡◌, ℕ, suc, ◌<◌, cond, List, [], ◌∷◌, length, Some, None, Option, slice_index_or}
-use Rattle.std.specs.BTreeMap.{get}
 use Rattle.std.specs.Option.{option_map, option_to_list}
-use Rattle.std.specs.BTreeMap.{BTreeMap}
-use Rattle.std.specs.Map.Invariant.{IsValidBTreeMap}
+use Rattle.std.specs.BTreeMap.{BTreeMap, IsOrdered, get}
 use Rattle.tow_sheets.specs.declared.links.Link.{Link}
 use Rattle.tow_sheets.specs.Links.{no_link}
 use Rattle.tow_rule.specs.Listed.{is_of_pair, listed}
@@ -21,7 +19,7 @@ StandsAt links tail head (Some i) = (i < length links) × (listed links tail hea
 
 -- the keys of an index are in order, by tail and then by head
 abbrev pub InOrder : BTreeMap (ℕ × ℕ) ℕ → Type 0
-InOrder index = IsValidBTreeMap (λ x y. ordering_then (nat_cmp x.0 y.0) (nat_cmp x.1 y.1)) index
+InOrder index = IsOrdered (λ x y. ordering_then (nat_cmp x.0 y.0) (nat_cmp x.1 y.1)) index
 
 -- an index has at each pair of numbers the place of the listed link of that pair, and nothing where there is none
 abbrev pub Places : BTreeMap (ℕ × ℕ) ℕ → List Link → Type 0
