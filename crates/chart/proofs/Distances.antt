@@ -1,5 +1,5 @@
 -- What holds of the distances of a chart with lawful edges. Assumes nothing.
-use Rattle.std.proofs.Common.{◌≡◌, ℕ, zero, suc, ◌≤◌, true, not, eqb, leb, List, [], ◌∷◌, length, Some, Option, sym, subst, arith}
+use Rattle.std.proofs.Common.{◌≡◌, ℕ, zero, suc, ◌≤◌, true, not, eqb, leb, List, [], ◌∷◌, Some, Option, sym, subst, arith}
 use mathlib.Core.Logic.{∥∥₁_map, ∥∥₁_elim}
 use native.Mathlib.Bridge.{le_prop}
 use Rattle.std.specs.List.{list_all}

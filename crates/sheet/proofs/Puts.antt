@@ -3,7 +3,7 @@ use Rattle.std.proofs.Common.{◌≡◌, ℕ, ◌+◌, ◌<◌, ◌≤◌, min, 
 use Rattle.std.proofs.lemmas.List.{length_push, length-set, take_more_set, map_push}
 use Rattle.sheet.specs.declared.row.Row.{Row}
 use Rattle.tokens.specs.Text.{numeral}
-use Rattle.sheet.specs.Reading.{numerals, number_in, numbers}
+use Rattle.sheet.specs.Reading.{numerals, number_in}
 use Rattle.sheet.specs.Rows.{Holds}
 
 and_true : (x : Bool) → (x && true) ≡ x

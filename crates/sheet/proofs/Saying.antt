@@ -1,5 +1,5 @@
 -- That what a reader answers is what the sheet says. Assumes nothing.
-use Rattle.std.proofs.Common.{◌≡◌, ℕ, suc, ◌+◌, ◌<◌, true, false, ltb, leb, ◌⊎◌, List, [], ◌∷◌, ◌++◌, map, length, get_or, take, is_some, Some, None, Ok, Err, Option, Result, unwrap_or, refl, ap, ◌∙◌, subst, inl, inr, ⊎_elim, arith, MatchResult}
+use Rattle.std.proofs.Common.{◌≡◌, ℕ, suc, ◌+◌, ◌<◌, true, false, ltb, leb, List, [], ◌∷◌, ◌++◌, map, length, get_or, take, is_some, Some, None, Ok, Err, Option, Result, unwrap_or, refl, ap, ◌∙◌, subst, inl, inr, ⊎_elim, arith, MatchResult}
 use Rattle.std.proofs.lemmas.Bool.{cond_both, and_parts, and_cases, ltb-true, ltb-false, leb-true, leb-false}
 use Rattle.faults.specs.declared.refusal.Refusal.{Refusal}
 use Rattle.faults.specs.declared.fault.Fault.{Fault}
