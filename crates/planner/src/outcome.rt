@@ -4,7 +4,8 @@ ghost use Rattle.matchings.specs.Rowed.{Bounded};
 ghost use Rattle.planner.specs.Outcomes.{Comes};
 
 use crate::pricing::{is_high, total, write_prices};
-use crate::search::{Costs, Ending, solve};
+use crate::search::Costs;
+use crate::search::solve::{Ending, solve};
 use plans::Plan;
 use rows::Rowed;
 

@@ -15,11 +15,10 @@ mod raise;
 mod reach;
 mod scan;
 mod settle;
-mod solve;
+pub(crate) mod solve;
 mod stop;
 
 pub(crate) use costs::Costs;
-pub(crate) use solve::{Ending, solve};
 
 /// The entry of a table where there is no trip.
 const NONE: u16 = 65535;

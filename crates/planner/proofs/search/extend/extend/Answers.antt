@@ -6,7 +6,7 @@ use Rattle.matchings.proofs.RowPlaces.{near_more}
 use Rattle.planner.proofs.SearchSteps.{least_long, less}
 use Rattle.std.proofs.lemmas.Bool.{both_ways}
 use Rattle.planner.proofs.search.extend.extend.Goals as goal
-use Rattle.planner.proofs.search.extend.extend.Goals.{else-within-2-via-else-within-2, else-within-2-via-then-within-2+else-is-over}
+use Rattle.planner.proofs.search.extend.extend.Goals.{else-within-2-via-else-within-2, else-within-2-via-then-within-2+else-is_over}
 
 pub tails-init : goal.tails-init
 tails-init g c = (c.requires.stands, c.requires.growing, c.requires.low)
@@ -16,30 +16,30 @@ returns-then-within g c =
     let m = g.C.Value.Rowed in
     let s = c.tails.invariant.0 in
     let q = c.tails.invariant.1 in
-    record { stands = s; low = c.tails.invariant.2; found = (halt_none m.row m.count m.long m.near _ c.requires.bounded _ c.requires.few _ _ _ _ _ _ _ _ _ s q (least_long c.tails.reached c.tails.via (weights m.row c.tails.slack) _ _ None q.searching.reached_long c.in-default.ensures), c.if-within.true) }
+    record { stands = s; low = c.tails.invariant.2; found = (halt_none m.row m.count m.long m.near _ c.requires.bounded _ c.requires.few _ _ _ _ _ _ _ _ _ s q (least_long c.tails.reached c.tails.via (weights m.row c.tails.slack) _ _ None q.searching.reached_long c.in_default.ensures), c.if-within.true) }
 
-pub returns-in-default : goal.returns-in-default
-returns-in-default g c =
+pub returns-in_default : goal.returns-in_default
+returns-in_default g c =
     let m = g.C.Value.Rowed in
     let s = c.tails.invariant.0 in
     let q = c.tails.invariant.1 in
-    record { stands = s; low = c.tails.invariant.2; found = (closed m.row m.count m.long m.near _ c.requires.bounded _ c.requires.few _ _ _ _ _ _ _ _ _ s q (least_long c.tails.reached c.tails.via (weights m.row c.tails.slack) _ _ None q.searching.reached_long c.in-default.ensures), c.if-within.false) }
+    record { stands = s; low = c.tails.invariant.2; found = (closed m.row m.count m.long m.near _ c.requires.bounded _ c.requires.few _ _ _ _ _ _ _ _ _ s q (least_long c.tails.reached c.tails.via (weights m.row c.tails.slack) _ _ None q.searching.reached_long c.in_default.ensures), c.if-within.false) }
 
-pub is-over-requires : goal.is-over-requires
-is-over-requires g c =
+pub is_over-requires : goal.is_over-requires
+is_over-requires g c =
     let m = g.C.Value.Rowed in
     let s = c.tails.invariant.0 in
     let q = c.tails.invariant.1 in
     let l = least_long c.tails.reached c.tails.via (weights m.row c.tails.slack) _ _ (Some c.in-Some.i) q.searching.reached_long c.in-Some.ensures in
     record { hull_near = near_more 48018000000000 40000000000000000 _ (omega arith) (hull_near m.row m.count m.long m.near _ c.requires.bounded _ c.requires.few _ _ _ _ _ _ _ _ _ s q); by_near = step_near m.row m.count m.long m.near _ c.requires.bounded _ c.requires.few _ _ _ _ _ _ _ _ _ s q _ l _ c.index-slack-i.is }
 
-pub returns-then-is-over : goal.returns-then-is-over
-returns-then-is-over g c =
+pub returns-then-is_over : goal.returns-then-is_over
+returns-then-is_over g c =
     let m = g.C.Value.Rowed in
     let s = c.tails.invariant.0 in
     let q = c.tails.invariant.1 in
     let l = least_long c.tails.reached c.tails.via (weights m.row c.tails.slack) _ _ (Some c.in-Some.i) q.searching.reached_long c.in-Some.ensures in
-    record { stands = s; low = c.tails.invariant.2; found = (halt_dear m.row m.count m.long m.near _ c.requires.bounded _ c.requires.few _ _ _ _ _ _ _ _ _ s q c.in-Some.i l _ c.index-slack-i.is _ c.is-over.ensures c.if-is-over.true, c.if-within-2.true) }
+    record { stands = s; low = c.tails.invariant.2; found = (halt_dear m.row m.count m.long m.near _ c.requires.bounded _ c.requires.few _ _ _ _ _ _ _ _ _ s q c.in-Some.i l _ c.index-slack-i.is _ c.is_over.ensures c.if-is_over.true, c.if-within-2.true) }
 
 pub reach-requires : goal.reach-requires
 reach-requires g c =
@@ -63,7 +63,7 @@ returns-then-next-i g c =
     let e = c.reach.ensures.ends c.if-next-i.true in
     record {
       stands = c.reach.ensures.stands;
-      low = elim c.else-within-2.branch [ else-within-2-via-else-within-2 v ↦ (λ yea. absurd (both_ways _ v.if-within-2.false yea)) | else-within-2-via-then-within-2+else-is-over v ↦ (λ _. not_over m.row m.count m.long m.near _ c.requires.bounded _ c.requires.few _ _ _ _ _ _ _ _ _ s q c.in-Some.i l _ v.index-slack-i.is _ v.is-over.ensures v.if-is-over.false _ c.reach.ensures.price) ];
+      low = elim c.else-within-2.branch [ else-within-2-via-else-within-2 v ↦ (λ yea. absurd (both_ways _ v.if-within-2.false yea)) | else-within-2-via-then-within-2+else-is_over v ↦ (λ _. not_over m.row m.count m.long m.near _ c.requires.bounded _ c.requires.few _ _ _ _ _ _ _ _ _ s q c.in-Some.i l _ v.index-slack-i.is _ v.is_over.ensures v.if-is_over.false _ c.reach.ensures.price) ];
       found = (ready m.row m.count m.long m.near _ c.requires.bounded _ c.requires.few _ _ _ _ _ _ _ _ _ s q c.in-Some.i _ _ _ _ l.0 c.if-next-i.true e.0 e.1, e.2);
     }
 
@@ -76,4 +76,4 @@ tails-preserved g c =
     let s = c.tails.invariant.0 in
     let q = c.tails.invariant.1 in
     let l = least_long c.tails.reached c.tails.via (weights m.row c.tails.slack) _ _ (Some c.in-Some.i) q.searching.reached_long c.in-Some.ensures in
-    (c.reach.ensures.stands, c.reach.ensures.further c.if-next-i.false, elim c.else-within-2.branch [ else-within-2-via-else-within-2 v ↦ (λ yea. absurd (both_ways _ v.if-within-2.false yea)) | else-within-2-via-then-within-2+else-is-over v ↦ (λ _. not_over m.row m.count m.long m.near _ c.requires.bounded _ c.requires.few _ _ _ _ _ _ _ _ _ s q c.in-Some.i l _ v.index-slack-i.is _ v.is-over.ensures v.if-is-over.false _ c.reach.ensures.price) ])
+    (c.reach.ensures.stands, c.reach.ensures.further c.if-next-i.false, elim c.else-within-2.branch [ else-within-2-via-else-within-2 v ↦ (λ yea. absurd (both_ways _ v.if-within-2.false yea)) | else-within-2-via-then-within-2+else-is_over v ↦ (λ _. not_over m.row m.count m.long m.near _ c.requires.bounded _ c.requires.few _ _ _ _ _ _ _ _ _ s q c.in-Some.i l _ v.index-slack-i.is _ v.is_over.ensures v.if-is_over.false _ c.reach.ensures.price) ])

@@ -12,8 +12,8 @@ start-requires g c =
     record {
       bounded = c.requires.bounded;
       few = at_below _ _ _ e (few_names _ c.requires.few);
-      coming-long = s.a_long ∙ sym e;
-      leaving-long = s.b_long ∙ sym e;
+      coming_long = s.a_long ∙ sym e;
+      leaving_long = s.b_long ∙ sym e;
       reached_long = c.requires.reached_long ∙ sym e;
       slack_long = c.requires.slack_long ∙ sym e;
       via_long = c.requires.via_long ∙ sym e;

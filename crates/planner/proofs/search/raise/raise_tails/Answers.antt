@@ -10,6 +10,6 @@ loop-i-preserved g c =
       | then-reached-i w ↦
           simp (w.leaving-is, w.slack-is) (tails_put m.row m.count m.long m.near c.args.by c.requires.step _ _ _ _ _ _ _ c.loop-i.invariant c.requires.near (search rules) (search rules) _ _ w.index-leaving-i.is w.if-reached-i.true w.minus.ensures)
       | else-reached-i+then-via-i w ↦
-          simp (w.leaving-is, w.slack-is) (slacks_put m.row m.count m.long m.near c.args.by c.requires.step _ _ _ _ _ _ _ c.loop-i.invariant c.requires.near-slack (search rules) (search rules) _ _ w.index-slack-i.is w.if-reached-i.false w.if-via-i.true w.minus-then-via-i.ensures)
+          simp (w.leaving-is, w.slack-is) (slacks_put m.row m.count m.long m.near c.args.by c.requires.step _ _ _ _ _ _ _ c.loop-i.invariant c.requires.near_slack (search rules) (search rules) _ _ w.index-slack-i.is w.if-reached-i.false w.if-via-i.true w.minus-then-via-i.ensures)
       | else-reached-i+else-via-i w ↦ simp (w.leaving-is, w.slack-is) (tail_skip _ _ _ _ _ _ _ _ c.loop-i.invariant w.if-reached-i.false w.if-via-i.false)
     ]

@@ -24,8 +24,8 @@ loop-j-preserved g c =
     let fw = weighed_forward _ _ c.requires.bounded in
     elim c.if-prior-j.branch [
       | then-prior-j w ↦
-          simp (w.slack-is, w.via_is) (start_more _ _ fw _ _ _ _ _ _ _ c.loop-j-test.true c.loop-j.invariant w.if-prior-j.true _ (sym (weights_at m.row _ _ _ (search rules) w.index-coming-j.is)) _ _ w.scan.ensures)
-      | else-prior-j w ↦ simp (w.slack-is, w.via_is) (start_skip _ _ fw _ _ _ _ _ _ _ c.loop-j-test.true c.loop-j.invariant w.if-prior-j.false)
+          simp (w.slack-is, w.via-is) (start_more _ _ fw _ _ _ _ _ _ _ c.loop-j-test.true c.loop-j.invariant w.if-prior-j.true _ (sym (weights_at m.row _ _ _ (search rules) w.index-coming-j.is)) _ _ w.scan.ensures)
+      | else-prior-j w ↦ simp (w.slack-is, w.via-is) (start_skip _ _ fw _ _ _ _ _ _ _ c.loop-j-test.true c.loop-j.invariant w.if-prior-j.false)
     ]
 
 pub returns : goal.returns

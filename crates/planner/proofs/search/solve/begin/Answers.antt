@@ -9,15 +9,15 @@ pub quote-requires : goal.quote-requires
 quote-requires g c =
     let m = g.C.Value.Rowed in
     let low-is = c.filled-low.ensures ∙ kept_filled m.count (negsuc 5999999999) (omega (arith, ints), omega (arith, ints)) in
-    record { bounded = c.requires.bounded; leaving-long = c.requires.leaving-long ∙ sym c.requires.coming-long; near = start_near m.row m.count m.long m.near _ low-is }
+    record { bounded = c.requires.bounded; leaving_long = c.requires.leaving_long ∙ sym c.requires.coming_long; near = start_near m.row m.count m.long m.near _ low-is }
 
 pub returns : goal.returns
 returns g c =
     let m = g.C.Value.Rowed in
     let low-is = c.filled-low.ensures ∙ kept_filled m.count (negsuc 5999999999) (omega (arith, ints), omega (arith, ints)) in
     let e = c.clear.auto.table in
-    let la = c.requires.coming-long ∙ sym e in
-    let lb = c.quote.auto.leaving ∙ c.requires.leaving-long ∙ sym e in
+    let la = c.requires.coming_long ∙ sym e in
+    let lb = c.quote.auto.leaving ∙ c.requires.leaving_long ∙ sym e in
     let lp = c.clear-2.auto.table ∙ c.requires.prior_long ∙ sym e in
     let nh = start_near m.row m.count m.long m.near _ low-is in
     let op = subst (λ x. Opened m.row (g.C.Costs.net c.args.costs.now) c.filled-low.result x c.quote.new.coming c.quote.new.leaving) la c.quote.ensures in
