@@ -1,7 +1,7 @@
 -- Covers: the bound, and the fewest duties.
 use Rattle.std.proofs.Common.{◌≡◌, ℕ, ◌<◌, true, List, [], ◌∷◌, length, ℤ, pos, is_some, Some, None, Option, unwrap_or, refl, arith}
 use Rattle.std.specs.Option.{option_map}
-use Rattle.std.specs.List.{AllByRecursion as All}
+use Rattle.std.specs.List.{AllByRecursion}
 use Rattle.std.proofs.lemmas.Int.{ints}
 use Rattle.std.proofs.lemmas.Bool.Decides.{nat_tests}
 use Rattle.duties.specs.Duties.{wholes, Net, onward, IsDuty, cost, positions, times, missing, sum_over, Cover}
@@ -28,7 +28,7 @@ onward_counted : {V : Type 0} (N : Net V) (i : ℕ) (js : List ℕ) → onward w
 onward_counted N i [] = refl
 onward_counted N i (j ∷ js) = let ih = onward_counted N j js in let z = zero_mapped (N.link i j) in omega (arith, ints)
 
-pub cost_counted : {V : Type 0} (N : Net V) (ds : List (List ℕ)) → All (IsDuty N) ds → cost wholes (counted N) ds ≡ pos (length ds)
+pub cost_counted : {V : Type 0} (N : Net V) (ds : List (List ℕ)) → AllByRecursion (IsDuty N) ds → cost wholes (counted N) ds ≡ pos (length ds)
 cost_counted N [] w = refl
 cost_counted N ([] ∷ ds) w = absurd w.0
 cost_counted N ((i ∷ js) ∷ ds) w = let ih = cost_counted N ds w.1 in let z = onward_counted N i js in omega (arith, ints)

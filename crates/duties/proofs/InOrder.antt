@@ -1,6 +1,6 @@
 -- The duties of a table, in board order of their first trips, are the duties that the table means. Assumes nothing.
 use Rattle.std.proofs.Common.{◌≡◌, ℕ, ◌+◌, ◌<◌, ◌≤◌, Bool, true, false, cond, eqb, ltb, leb, List, [], ◌∷◌, map, length, ℤ, pos, ◌+ℤ◌, sym, refl, ap, ◌∙◌, subst, arith}
-use Rattle.std.specs.List.{AllByRecursion as All}
+use Rattle.std.specs.List.{AllByRecursion}
 use Rattle.std.proofs.ByRecursion.{All-map}
 use Rattle.std.proofs.lemmas.List.{length-map, map-id}
 use Rattle.std.proofs.lemmas.Int.{ints}
@@ -17,7 +17,7 @@ use Rattle.duties.proofs.Following.{goes_on, past_end, duty_begins}
 -- ---- one duty
 
 -- trips that are run as the table says are the duty of the first of them
-runs_duty : (N : Net ℤ) (t : List ℕ) → Table N t → (i : ℕ) (js : List ℕ) → Runs t i js → i < N.trips → All (λ k. k < N.trips) js → duty_of t i ≡ i ∷ js
+runs_duty : (N : Net ℤ) (t : List ℕ) → Table N t → (i : ℕ) (js : List ℕ) → Runs t i js → i < N.trips → AllByRecursion (λ k. k < N.trips) js → duty_of t i ≡ i ∷ js
 runs_duty N t tab i [] r wi w =
     let l = tab.long in
     let s = tab.small in
@@ -32,7 +32,7 @@ runs_duty N t tab i (j ∷ js) r wi w =
     goes_on t i 65535 (omega arith) on.0 ∙ ap (λ k. i ∷ duty_of t k) is ∙ ap (λ ks. i ∷ ks) (runs_duty N t tab j js r.1 w.0 w.1)
 
 -- so duties that are as the table says are those of their first trips
-each_duty : (N : Net ℤ) (t : List ℕ) → Table N t → (ds : List (List ℕ)) → All (Follows t) ds → All (λ k. k < N.trips) (positions ds) → ds ≡ map (duty_of t) (starts ds)
+each_duty : (N : Net ℤ) (t : List ℕ) → Table N t → (ds : List (List ℕ)) → AllByRecursion (Follows t) ds → AllByRecursion (λ k. k < N.trips) (positions ds) → ds ≡ map (duty_of t) (starts ds)
 each_duty N t tab [] f w = refl
 each_duty N t tab ([] ∷ ds) f w = absurd f.0
 each_duty N t tab ((i ∷ js) ∷ ds) f w =
@@ -53,7 +53,7 @@ firsts_missing t k =
     let m = times_missing k (length t) t in
     grind (arith, nat_tests)
 
-pub firsts_within : (t : List ℕ) → All (λ k. k < length t) (firsts t)
+pub firsts_within : (t : List ℕ) → AllByRecursion (λ k. k < length t) (firsts t)
 firsts_within t = all_from_times (λ k. k < length t) (firsts t) (λ k l. let f = times_firsts_from k t 0 t in grind (arith, nat_tests))
 
 few_from : (t : List ℕ) (p : ℕ) (ss : List ℕ) → length (firsts_from t p ss) ≤ length ss
@@ -64,7 +64,7 @@ few_from t p (s ∷ ss) = let ih = few_from t (p + 1) ss in grind (arith, nat_te
 pub firsts_few : (t : List ℕ) → length (firsts t) ≤ length t
 firsts_few t = few_from t 0 t
 
-starts_duties : (t ks : List ℕ) → All (λ k. k < length t) ks → starts (map (duty_of t) ks) ≡ ks
+starts_duties : (t ks : List ℕ) → AllByRecursion (λ k. k < length t) ks → starts (map (duty_of t) ks) ≡ ks
 starts_duties t [] w = refl
 starts_duties t (k ∷ ks) w =
     let b = duty_begins t k 0 w.0 in
@@ -91,12 +91,12 @@ all_step : {X : Type 0} (P : X → Type 0) (f : ℕ → X) (k x : ℕ) (b : Bool
 all_step P f k x true same here later = rw (same refl) here
 all_step P f k x false same here later = later refl
 
-all_at : {X : Type 0} (P : X → Type 0) (f : ℕ → X) (xs : List ℕ) (k : ℕ) → All P (map f xs) → 0 < times k xs → P (f k)
+all_at : {X : Type 0} (P : X → Type 0) (f : ℕ → X) (xs : List ℕ) (k : ℕ) → AllByRecursion P (map f xs) → 0 < times k xs → P (f k)
 all_at P f [] k w h = absurd (omega arith)
 all_at P f (x ∷ xs) k w h = all_step P f k x (eqb k x) (eqb-true k x) w.0 (λ e. all_at P f xs k w.1 (grind arith))
 
-all_times : (P : ℕ → Type 0) (xs : List ℕ) (k : ℕ) → All P xs → 0 < times k xs → P k
-all_times P xs k w h = all_at P (λ x. x) xs k (subst (All P) (sym (map-id xs)) w) h
+all_times : (P : ℕ → Type 0) (xs : List ℕ) (k : ℕ) → AllByRecursion P xs → 0 < times k xs → P k
+all_times P xs k w h = all_at P (λ x. x) xs k (subst (AllByRecursion P) (sym (map-id xs)) w) h
 
 module _ (f : ℕ → List ℕ) (xs ys : List ℕ) (alike : Alike xs ys) where
   pub alike_positions : Alike (positions (map f xs)) (positions (map f ys))
@@ -109,7 +109,7 @@ module _ (f : ℕ → List ℕ) (xs ys : List ℕ) (alike : Alike xs ys) where
   pub alike_cost : (N : Net ℤ) → cost wholes N (map f xs) ≡ cost wholes N (map f ys)
   alike_cost N = cost_map N f xs ∙ alike_sum (λ x. duty_cost wholes N (f x)) xs ys alike ∙ sym (cost_map N f ys)
 
-  pub alike_all : (P : List ℕ → Type 0) → All P (map f xs) → All P (map f ys)
+  pub alike_all : (P : List ℕ → Type 0) → AllByRecursion P (map f xs) → AllByRecursion P (map f ys)
   alike_all P w = All-map P f ys (all_from_times (λ k. P (f k)) ys (λ k l. let e = alike k in all_at P f xs k w (omega arith)))
 
 pub duties_traced : DutiesTraced
@@ -126,7 +126,7 @@ duties_traced N t tab =
     let f = duty_of t in
     let is : ds ≡ map f xs = each_duty N t tab ds tr.follows sel.within in
     let same : Alike (positions ds) (positions (map f ys)) = λ k. ap (λ es. times k (positions es)) is ∙ alike_positions f xs ys alike k in
-    let every : (P : List ℕ → Type 0) → All P ds → All P (map f ys) = λ P w. alike_all f xs ys alike P (subst (All P) is w) in
+    let every : (P : List ℕ → Type 0) → AllByRecursion P ds → AllByRecursion P (map f ys) = λ P w. alike_all f xs ys alike P (subst (AllByRecursion P) is w) in
     record {
       cover = record {
         selection = record {

@@ -1,6 +1,6 @@
 -- How often positions stand in lists, and sums over lists in which the same positions stand.
 use Rattle.std.proofs.Common.{◌≡◌, ℕ, zero, suc, ◌+◌, ◌<◌, ◌≤◌, Bool, true, false, cond, eqb, ltb, List, [], ◌∷◌, ◌++◌, length, ℤ, ◌+ℤ◌, filter, sym, refl, ap, ◌∙◌, arith}
-use Rattle.std.specs.List.{AllByRecursion as All}
+use Rattle.std.specs.List.{AllByRecursion}
 use Rattle.std.proofs.lemmas.Int.{ints}
 use Rattle.std.proofs.lemmas.Bool.{eqb-true}
 use Rattle.std.proofs.lemmas.Bool.Decides.{nat_tests}
@@ -73,12 +73,12 @@ times_below k (suc n) = let ih = times_below k n in grind (arith, nat_tests)
 pub times_missing : (k n : ℕ) (xs : List ℕ) → times k (missing n xs) ≡ cond (eqb (times k xs) 0) (cond (ltb k n) 1 0) 0
 times_missing k n xs = times_kept (λ k. eqb (times k xs) 0) k (below n) ∙ ap (λ m. cond (eqb (times k xs) 0) m 0) (times_below k n)
 
-pub times_outside : (k n : ℕ) (xs : List ℕ) → All (λ x. x < n) xs → n ≤ k → times k xs ≡ 0
+pub times_outside : (k n : ℕ) (xs : List ℕ) → AllByRecursion (λ x. x < n) xs → n ≤ k → times k xs ≡ 0
 times_outside k n [] w h = refl
 times_outside k n (x ∷ xs) w h = let ih = times_outside k n xs w.1 h in let l = w.0 in grind (arith, nat_tests)
 
 -- what stands in xs and what is missing there are all positions below n
-pub with_missing : (n : ℕ) (xs : List ℕ) → All (λ x. x < n) xs → ((k : ℕ) → times k xs ≤ 1) → Alike (xs ++ missing n xs) (below n)
+pub with_missing : (n : ℕ) (xs : List ℕ) → AllByRecursion (λ x. x < n) xs → ((k : ℕ) → times k xs ≤ 1) → Alike (xs ++ missing n xs) (below n)
 with_missing n xs w one k =
     let e = times_append k xs (missing n xs) in
     let m = times_missing k n xs in
@@ -87,14 +87,14 @@ with_missing n xs w one k =
     let out : n ≤ k → times k xs ≡ 0 = times_outside k n xs w in
     grind (arith, nat_tests)
 
-pub all_front : {X : Type 0} (P : X → Type 0) (xs ys : List X) → All P (xs ++ ys) → All P xs
+pub all_front : {X : Type 0} (P : X → Type 0) (xs ys : List X) → AllByRecursion P (xs ++ ys) → AllByRecursion P xs
 all_front P [] ys h = tt
 all_front P (x ∷ xs) ys h = (h.0, all_front P xs ys h.1)
 
-pub all_back : {X : Type 0} (P : X → Type 0) (xs ys : List X) → All P (xs ++ ys) → All P ys
+pub all_back : {X : Type 0} (P : X → Type 0) (xs ys : List X) → AllByRecursion P (xs ++ ys) → AllByRecursion P ys
 all_back P [] ys h = h
 all_back P (x ∷ xs) ys h = all_back P xs ys h.1
 
-pub all_from_times : (P : ℕ → Type 0) (xs : List ℕ) → ((k : ℕ) → 0 < times k xs → P k) → All P xs
+pub all_from_times : (P : ℕ → Type 0) (xs : List ℕ) → ((k : ℕ) → 0 < times k xs → P k) → AllByRecursion P xs
 all_from_times P [] h = tt
 all_from_times P (x ∷ xs) h = (h x (grind (arith, nat_tests)), all_from_times P xs (λ k l. h k (grind (arith, nat_tests))))

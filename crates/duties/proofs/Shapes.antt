@@ -1,6 +1,6 @@
 -- Nets with the same trips and links have the same selections, covers and tables, whatever their costs are. Assumes nothing.
 use Rattle.std.proofs.Common.{◌≡◌, ℕ, ◌<◌, List, [], ◌∷◌, ℤ, pos, is_some, Some, None, Option, sym, refl, ◌∙◌, arith}
-use Rattle.std.specs.List.{AllByRecursion as All}
+use Rattle.std.specs.List.{AllByRecursion}
 use Rattle.std.proofs.ByRecursion.{All-weaker}
 use Rattle.std.specs.Option.{option_map}
 use Rattle.duties.specs.Duties.{Net, Links, Linked, IsDuty, positions, Selection, Cover}
@@ -55,5 +55,5 @@ module _ {V : Type 0} (N : Net V) where
   duties_cover t tab = cover_of (counted N) N refl from_counted (duties_of t) (duties_traced (counted N) t (table_of N (counted N) refl to_counted t tab)).cover
 
   -- and each goes on as the table says
-  pub duties_follow : (t : List ℕ) → Table N t → All (Follows t) (duties_of t)
+  pub duties_follow : (t : List ℕ) → Table N t → AllByRecursion (Follows t) (duties_of t)
   duties_follow t tab = (duties_traced (counted N) t (table_of N (counted N) refl to_counted t tab)).follows

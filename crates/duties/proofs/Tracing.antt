@@ -1,6 +1,6 @@
 -- The duties that a table means, built from the last trip down to the first.
 use Rattle.std.proofs.Common.{◌≡◌, ℕ, suc, ◌+◌, ◌<◌, ◌≤◌, Bool, true, false, cond, eqb, ltb, leb, List, [], ◌∷◌, length, get_or, ℤ, pos, ◌+ℤ◌, sym, refl, ap, ◌∙◌, arith}
-use Rattle.std.specs.List.{AllByRecursion as All}
+use Rattle.std.specs.List.{AllByRecursion}
 use Rattle.std.proofs.lemmas.Int.{ints}
 use Rattle.std.proofs.lemmas.Bool.{eqb-true, eqb-false}
 use Rattle.std.proofs.lemmas.Bool.Decides.{nat_tests}
@@ -39,7 +39,7 @@ cost_parts N [] = refl
 cost_parts N ([] ∷ ds) = let ih = cost_parts N ds in omega (arith, ints)
 cost_parts N ((i ∷ js) ∷ ds) = let ih = cost_parts N ds in omega (arith, ints)
 
-length_starts : (N : Net ℤ) (ds : List (List ℕ)) → All (IsDuty N) ds → length (starts ds) ≡ length ds
+length_starts : (N : Net ℤ) (ds : List (List ℕ)) → AllByRecursion (IsDuty N) ds → length (starts ds) ≡ length ds
 length_starts N [] w = refl
 length_starts N ([] ∷ ds) w = absurd w.0
 length_starts N ((i ∷ js) ∷ ds) w = ap suc (length_starts N ds w.1)
@@ -77,12 +77,12 @@ runs_attach N k s ([] ∷ ds) h = let ih = runs_attach N k s ds h in omega (arit
 runs_attach N k s ((i ∷ js) ∷ ds) h = runs_step N k s i js ds (attach k s ds) (eqb s i) (eqb-true s i) (λ e. runs_attach N k s ds (grind arith))
 
 -- P of a duty is kept where k goes in front
-all_attach : (P : List ℕ → Type 0) (k s : ℕ) (ds : List (List ℕ)) → ((js : List ℕ) → P (s ∷ js) → P (k ∷ s ∷ js)) → All P ds → All P (attach k s ds)
+all_attach : (P : List ℕ → Type 0) (k s : ℕ) (ds : List (List ℕ)) → ((js : List ℕ) → P (s ∷ js) → P (k ∷ s ∷ js)) → AllByRecursion P ds → AllByRecursion P (attach k s ds)
 all_attach P k s [] f w = tt
 all_attach P k s ([] ∷ ds) f w = (w.0, all_attach P k s ds f w.1)
 all_attach P k s ((i ∷ js) ∷ ds) f w = by (eqb s i) refl (all_attach P k s ds f w.1)
   where
-    by : (t : Bool) → eqb s i ≡ t → All P (attach k s ds) → All P (cond t ((k ∷ i ∷ js) ∷ ds) ((i ∷ js) ∷ attach k s ds))
+    by : (t : Bool) → eqb s i ≡ t → AllByRecursion P (attach k s ds) → AllByRecursion P (cond t ((k ∷ i ∷ js) ∷ ds) ((i ∷ js) ∷ attach k s ds))
     by true e rest = let same = eqb-true s i e in (rw (← same) (f js (rw same w.0)), w.1)
     by false e rest = (w.0, rest)
 
@@ -174,16 +174,16 @@ module _ (N : Net ℤ) (t : List ℕ) where
       let e : step_cost N t k ≡ cond (eqb s 65535) (N.homes k) (link_cost wholes N k s) = ap (λ x. cond (eqb x 65535) (N.homes k) (link_cost wholes N k x)) r.0.is in
       omega (arith, ints)
 
-  all_place : (P : List ℕ → Type 0) (k s : ℕ) (ds : List (List ℕ)) → (s ≡ 65535 → P (k ∷ [])) → ((s ≡ 65535 → ⊥) → (js : List ℕ) → P (s ∷ js) → P (k ∷ s ∷ js)) → All P ds
-      → (b : Bool) → eqb s 65535 ≡ b → All P (cond b ((k ∷ []) ∷ ds) (attach k s ds))
+  all_place : (P : List ℕ → Type 0) (k s : ℕ) (ds : List (List ℕ)) → (s ≡ 65535 → P (k ∷ [])) → ((s ≡ 65535 → ⊥) → (js : List ℕ) → P (s ∷ js) → P (k ∷ s ∷ js)) → AllByRecursion P ds
+      → (b : Bool) → eqb s 65535 ≡ b → AllByRecursion P (cond b ((k ∷ []) ∷ ds) (attach k s ds))
   all_place P k s ds alone front w true e = (alone (eqb-true s 65535 e), w)
   all_place P k s ds alone front w false e = all_attach P k s ds (front (eqb-false s 65535 e)) w
 
-  duties_built : (k : ℕ) (ss : List ℕ) → Rows N t k ss → All (IsDuty N) (built k ss)
+  duties_built : (k : ℕ) (ss : List ℕ) → Rows N t k ss → AllByRecursion (IsDuty N) (built k ss)
   duties_built k [] r = tt
   duties_built k (s ∷ ss) r = all_place (IsDuty N) k s (built (suc k) ss) (λ _. tt) (λ ne js d. ((r.0.on ne).2, d)) (duties_built (suc k) ss r.1) (eqb s 65535) refl
 
-  follows_built : (k : ℕ) (ss : List ℕ) → Rows N t k ss → All (Follows t) (built k ss)
+  follows_built : (k : ℕ) (ss : List ℕ) → Rows N t k ss → AllByRecursion (Follows t) (built k ss)
   follows_built k [] r = tt
   follows_built k (s ∷ ss) r = all_place (Follows t) k s (built (suc k) ss) (λ e. r.0.is ∙ e) (λ ne js d. (r.0.is, d)) (follows_built (suc k) ss r.1) (eqb s 65535) refl
 
@@ -205,7 +205,7 @@ cover_from_table N t tab =
     let from_is : (k : ℕ) → times k (from 0 t) ≡ times k (below n) = λ k. let e = times_from k 0 t in let f = times_below k n in grind (arith, nat_tests) in
     let ends : (k : ℕ) → times k (positions ds) ≡ cond (ltb k n) 1 0 = λ k. pos-is k ∙ from_is k ∙ times_below k n in
     let duties = duties_built N t 0 t rs in
-    let within : All (λ k. k < n) (positions ds) = all_from_times (λ k. k < n) (positions ds) (λ k l. let e = ends k in grind (arith, nat_tests)) in
+    let within : AllByRecursion (λ k. k < n) (positions ds) = all_from_times (λ k. k < n) (positions ds) (λ k l. let e = ends k in grind (arith, nat_tests)) in
     let once : (k : ℕ) → times k (positions ds) ≤ 1 = λ k. let e = ends k in grind (arith, nat_tests) in
     let every : (k : ℕ) → k < n → times k (positions ds) ≡ 1 = λ k l. let e = ends k in grind (arith, nat_tests) in
     let begins : Alike (starts ds) (missing n t) = λ k. begins_at k n ds t tab.small (λ ne. starts_built N t k 0 t len rs ne ∙ from_is k) (ends k) in

@@ -1,6 +1,6 @@
 -- Trips by their positions 0, 1, 2 .., the duties that run them, and what duties cost. Assumes nothing.
 use Rattle.std.specs.Prelude.{◌≡◌, ℕ, zero, suc, ◌<◌, ◌≤◌, true, cond, List, [], ◌∷◌, ◌++◌, ℤ, pos, ◌+ℤ◌, is_some, filter, Option, ◌==◌, nat_eq}
-use Rattle.std.specs.List.{AllByRecursion as All}
+use Rattle.std.specs.List.{AllByRecursion}
 use Rattle.std.specs.Option.{unwrap_or}
 
 -- A day's trips, by their positions in board order, and what they cost: to open a duty with a trip, to run one trip directly after another (if that is
@@ -82,8 +82,8 @@ missing n xs = filter (λ k. nat_eq (times k xs) 0) (below n)
 
 -- Duties in which every position is a trip's and none stands twice. Trips may be left out.
 pub record Selection {V : Type 0} (N : Net V) (ds : List (List ℕ)) : Type 0 where
-  pub duties : All (IsDuty N) ds
-  pub within : All (λ k. k < N.trips) (positions ds)
+  pub duties : AllByRecursion (IsDuty N) ds
+  pub within : AllByRecursion (λ k. k < N.trips) (positions ds)
   pub once : (k : ℕ) → times k (positions ds) ≤ 1
 
 -- A cover puts each trip into exactly one duty.

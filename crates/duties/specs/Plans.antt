@@ -1,6 +1,6 @@
 -- What a plan promises, in exact rows, and when hulls are too few. Assumes nothing.
 use Rattle.std.specs.Prelude.{◌≡◌, ℕ, ◌<◌, ◌≤◌, false, List, length, ℤ, pos, ◌-ℤ◌}
-use Rattle.std.specs.List.{AllByRecursion as All}
+use Rattle.std.specs.List.{AllByRecursion}
 use Rattle.rows.specs.Places.{scaled, below}
 use Rattle.duties.specs.Duties.{Net, Selection, Cover, positions, missing, below as upto}
 use Rattle.duties.specs.Tables.{Table, Follows, duties_of}
@@ -13,7 +13,7 @@ pub record Accepted (c : ℕ) (day : Net (List ℤ)) (limit : ℕ) (table : List
   -- each trip stands in exactly one duty of the table, and each trip of a duty is linked to the next
   pub cover : Cover day (duties_of table)
   -- each duty goes on as the entries say, and then home
-  pub follows : All (Follows table) (duties_of table)
+  pub follows : AllByRecursion (Follows table) (duties_of table)
   pub number_is : number ≡ length (duties_of table)
   pub within_limit : number ≤ limit
   pub cost_is : cost ≡ cost_row c day (duties_of table)

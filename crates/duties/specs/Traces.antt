@@ -1,6 +1,6 @@
 -- What the duties of a table come to, over whole numbers: words for proofs. Assumes nothing.
 use Rattle.std.specs.Prelude.{◌≡◌, ℕ, ◌<◌, cond, List, [], ◌∷◌, length, ℤ, ◌+ℤ◌, ◌==◌, ◌≢◌}
-use Rattle.std.specs.List.{AllByRecursion as All}
+use Rattle.std.specs.List.{AllByRecursion}
 use Rattle.duties.specs.Duties.{wholes, Net, link_cost, cost, times, below, missing, sum_over, Cover}
 use Rattle.duties.specs.Tables.{after, Follows}
 
@@ -17,7 +17,7 @@ step_cost N t i = cond (after t i == 65535) (N.homes i) (link_cost wholes N i (a
 -- Duties that a table means. They are a cover, run as the table says, begin with the trips that stand nowhere in the table, and cost what the steps and those beginnings cost.
 pub record Traced (N : Net ℤ) (t : List ℕ) (ds : List (List ℕ)) : Type 0 where
   pub cover : Cover N ds
-  pub follows : All (Follows t) ds
+  pub follows : AllByRecursion (Follows t) ds
   pub begins : (k : ℕ) → times k (starts ds) ≡ times k (missing N.trips t)
   pub number : length ds ≡ length (missing N.trips t)
   pub costs : cost wholes N ds ≡ sum_over wholes (step_cost N t) (below N.trips) +ℤ sum_over wholes N.opens (missing N.trips t)

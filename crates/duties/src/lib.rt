@@ -1,3 +1,2 @@
 //! Duties, covers, their costs and prices: definitions and lemmas, no code.
 #![tactic(auto)]
-

@@ -2,7 +2,7 @@
 use Rattle.std.proofs.Common.{◌≡◌, ℕ, ◌<◌, List, length, ℤ, subst, inl, inr, arith}
 use borrow.Author.Differences.{ints}
 use Rattle.std.proofs.lemmas.Bool.{cases_eq}
-use Rattle.rows.specs.Places.{kept, below}
+use Rattle.rows.specs.Places.{kept}
 use Rattle.duties.specs.Duties.{Net}
 use Rattle.matchings.specs.Tables.{at, Reached, FreeBelow}
 use Rattle.matchings.specs.Rowed.{place, weights, places, TableNear, weighed, Bounded}

@@ -1,5 +1,5 @@
 -- A tail of slack zero that is marked as reached: what then holds of the reached tails and heads. Assumes nothing.
-use Rattle.std.proofs.Common.{◌≡◌, ℕ, zero, ◌+◌, ◌<◌, ◌≢◌, ◌⊎◌, List, length, set, ℤ, pos, Some, sym, ap, ◌∙◌, inl, inr, arith, get_or-set_same}
+use Rattle.std.proofs.Common.{◌≡◌, ℕ, ◌+◌, ◌<◌, ◌≢◌, ◌⊎◌, List, length, set, ℤ, pos, Some, sym, ap, ◌∙◌, inl, inr, arith, get_or-set_same}
 use borrow.Author.Differences.{ints}
 use Rattle.std.proofs.lemmas.Bool.{cases_eq}
 use Rattle.duties.specs.Duties.{Net}

@@ -1,7 +1,6 @@
 -- One step of a growth, in weights: the raise, the mark and the scan. Assumes nothing.
-use Rattle.std.proofs.Common.{◌≡◌, ℕ, zero, ◌+◌, ◌<◌, ◌≤◌, List, length, set, ℤ, pos, ◌+ℤ◌, ◌≤ℤ◌, Some, ◌∙◌, subst, arith, length-set}
+use Rattle.std.proofs.Common.{◌≡◌, ℕ, ◌+◌, ◌<◌, ◌≤◌, List, length, set, ℤ, pos, ◌+ℤ◌, ◌≤ℤ◌, Some, ◌∙◌, subst, arith, length-set}
 use borrow.Author.Differences.{ints}
-use Rattle.rows.specs.Places.{below}
 use Rattle.duties.specs.Duties.{Net}
 use Rattle.matchings.specs.Tables.{at, at_z, Scan, Reached, RaiseHeads, RaiseTails, Least, Names}
 use Rattle.matchings.specs.Sound.{Matching, Sound, Tree, Searching, Raised}

@@ -1,5 +1,5 @@
 -- One step of a growth, in tables of values: what it needs of their ranges, and what holds after it. Assumes nothing.
-use Rattle.std.proofs.Common.{◌≡◌, ℕ, zero, ◌+◌, ◌<◌, ◌≤◌, List, length, get_or, set, ℤ, pos, ◌+ℤ◌, ◌≤ℤ◌, Some, sym, ◌∙◌, arith}
+use Rattle.std.proofs.Common.{◌≡◌, ℕ, ◌+◌, ◌<◌, ◌≤◌, List, length, get_or, set, ℤ, pos, ◌+ℤ◌, ◌≤ℤ◌, Some, sym, ◌∙◌, arith}
 use borrow.Author.Differences.{ints}
 use Rattle.rows.specs.Places.{added, kept, Near, weight}
 use Rattle.duties.specs.Duties.{Net}

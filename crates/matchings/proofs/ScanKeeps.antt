@@ -2,7 +2,6 @@
 use Rattle.std.proofs.Common.{◌≡◌, ℕ, ◌+◌, ◌<◌, ◌⊎◌, List, ℤ, ◌+ℤ◌, ◌≤ℤ◌, Some, None, Option, sym, refl, ap, ◌∙◌, inl, inr, ⊎_elim, arith}
 use borrow.Author.Differences.{ints}
 use Rattle.std.proofs.lemmas.Bool.{cases_eq, cases_lt}
-use Rattle.rows.specs.Places.{kept, below}
 use Rattle.duties.specs.Duties.{Net}
 use Rattle.matchings.specs.Tables.{at, at_z, Scan, Scanned, FreeBelow}
 use Rattle.matchings.specs.Sound.{Slacks, Tree}

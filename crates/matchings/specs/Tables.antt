@@ -1,7 +1,7 @@
 -- The tables of the search and what one pass over them does. Every trip is a tail, which one trip may follow, and a head, which may follow one trip. Tables are read by the position of a trip:
 -- `next` the head of each tail, `prior` the tail of each head, `reached` the number of each tail in the order in which tails were reached, `via` the head by which a tail is reached best; 65,535 is none.
 -- In prices, a j is the price of coming to trip j, b i that of leaving trip i, and h the hull price. The slack of a tail is the least by which a link to a reached head costs more than its two prices. Assumes nothing.
-use Rattle.std.specs.Prelude.{◌≡◌, ℕ, ◌+◌, ◌<◌, ◌≤◌, cond, ◌⊎◌, List, length, ℤ, pos, ◌+ℤ◌, ◌-ℤ◌, ◌≤ℤ◌, Some, None, sum_by, Option, ◌==◌, ◌≢◌, slice_index, slice_index_or}
+use Rattle.std.specs.Prelude.{◌≡◌, ℕ, ◌<◌, ◌≤◌, cond, ◌⊎◌, List, length, ℤ, pos, ◌+ℤ◌, ◌-ℤ◌, ◌≤ℤ◌, Some, None, sum_by, Option, ◌==◌, ◌≢◌, slice_index, slice_index_or}
 use Rattle.duties.specs.Duties.{Net}
 
 -- ---- entries

@@ -1,9 +1,8 @@
 -- Links that their prices bear out, with a hull price not below zero, and zero where the duties are fewer than the limit, keep the promise of a plan.
-use Rattle.std.proofs.Common.{◌≡◌, ℕ, zero, suc, ◌+◌, ◌*◌, ◌<◌, ◌≤◌, Bool, true, false, eqb, ◌⊎◌, List, [], ◌∷◌, map, length, get_or, ℤ, pos, negsuc, ◌+ℤ◌, ◌-ℤ◌, ◌*ℤ◌, neg_ℤ, ◌≤ℤ◌, is_some, unwrap_or, sym, refl, ap, ◌∙◌, subst, inl, inr, mul-le-mul_right, arith, w64, to_z}
+use Rattle.std.proofs.Common.{◌≡◌, ℕ, zero, suc, ◌+◌, ◌*◌, ◌<◌, ◌≤◌, false, ◌⊎◌, List, [], ◌∷◌, map, length, get_or, ℤ, pos, negsuc, ◌-ℤ◌, ◌*ℤ◌, neg_ℤ, ◌≤ℤ◌, is_some, unwrap_or, sym, refl, ap, ◌∙◌, subst, inl, inr, mul-le-mul_right, arith}
 use borrow.Author.Differences.{ints}
 use lib.IntN.{*ℤ_comm, *ℤ-negsuc}
-use Rattle.std.proofs.lemmas.List.{length-map, get_or-map}
-use Rattle.std.proofs.lemmas.List.Sums.{count_by-le-length}
+use Rattle.std.proofs.lemmas.List.{get_or-map}
 use Rattle.rows.specs.Places.{added, opposite, scaled, most, kept, Small, below, weight, wide}
 use Rattle.rows.proofs.Bounds.{kept_same, small_weaker}
 use Rattle.duties.specs.Duties.{Net, wholes, Links, Selection, Cover, positions, missing, sum_over, cost, below as upto}
@@ -18,7 +17,7 @@ use Rattle.duties.proofs.Tightness.{tight_cost}
 use Rattle.duties.proofs.InOrder.{duties_traced}
 use Rattle.duties.proofs.Shapes.{some_mapped, selection_of, cover_of, table_of, duties_follow}
 use Rattle.matchings.specs.Tables.{at, at_z, free}
-use Rattle.matchings.specs.Rowed.{weighed, Bounded, weights, places, PlacesNear, TableNear}
+use Rattle.matchings.specs.Rowed.{weighed, Bounded, weights, TableNear}
 use Rattle.matchings.specs.Growths.{Stands, Rests}
 use Rattle.matchings.proofs.RowPlaces.{places_near, small_from_near, minus_weight}
 use Rattle.matchings.proofs.TableEntries.{weights_at, value_small, near_read}

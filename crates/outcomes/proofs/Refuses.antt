@@ -1,17 +1,17 @@
 -- A dead end of the search has the fewest duties: counting duties instead of money, 1 is the price of coming to a reached head, and -1 that of leaving a reached tail.
-use Rattle.std.proofs.Common.{◌≡◌, ℕ, ◌<◌, ◌≤◌, Bool, true, false, cond, eqb, ◌⊎◌, List, length, ℤ, pos, negsuc, ◌+ℤ◌, ◌-ℤ◌, ◌*ℤ◌, ◌≤ℤ◌, is_some, Some, None, Option, unwrap_or, sym, refl, ap, ◌∙◌, inl, inr, ⊎_elim, arith}
+use Rattle.std.proofs.Common.{◌≡◌, ℕ, ◌<◌, ◌≤◌, Bool, true, false, cond, eqb, List, length, ℤ, pos, negsuc, ◌-ℤ◌, ◌*ℤ◌, ◌≤ℤ◌, is_some, Some, None, Option, sym, refl, ap, ◌∙◌, inl, inr, ⊎_elim, arith}
 use borrow.Author.Differences.{ints}
 use Rattle.std.proofs.lemmas.Bool.{cases_eq, eq-eqb, ne_eqb, false≢true}
 use Rattle.std.specs.Option.{option_map}
 use Rattle.rows.specs.Places.{weight}
-use Rattle.duties.specs.Duties.{Net, wholes, Links, Cover, sum_over, cost, below as upto}
+use Rattle.duties.specs.Duties.{Net, wholes, Cover, sum_over, cost, below as upto}
 use Rattle.duties.specs.Tables.{Table, duties_of}
 use Rattle.duties.specs.Traces.{Tight}
 use Rattle.duties.specs.Theorems.{price, Counters}
 use Rattle.duties.specs.Plans.{TooFew}
 use Rattle.duties.proofs.InOrder.{duties_traced}
 use Rattle.duties.proofs.Tightness.{tight_cost}
-use Rattle.duties.proofs.Shapes.{counted, some_mapped, to_counted, from_counted, cover_of, table_of}
+use Rattle.duties.proofs.Shapes.{counted, some_mapped, to_counted, from_counted, cover_of}
 use Rattle.duties.proofs.Corollaries.{fewest, zero_mapped, cost_counted}
 use Rattle.matchings.specs.Tables.{at, free, Reached}
 use Rattle.matchings.specs.Rowed.{weighed, Bounded}

@@ -1,5 +1,5 @@
 -- One price more: in the sum of all, and in the table of prices.
-use Rattle.std.proofs.Common.{◌≡◌, ℕ, zero, suc, ◌+◌, ◌*◌, ◌<◌, ◌≤◌, ◌≢◌, List, [], ◌∷◌, length, get_or, set, replicate, ℤ, pos, ◌+ℤ◌, sym, refl, ap, ◌∙◌, subst, arith, get_or-set_other, get_or-set_same, below_more}
+use Rattle.std.proofs.Common.{◌≡◌, ℕ, zero, suc, ◌+◌, ◌*◌, ◌<◌, ◌≢◌, List, [], ◌∷◌, length, get_or, set, replicate, ℤ, pos, ◌+ℤ◌, sym, refl, ap, ◌∙◌, arith, get_or-set_other, get_or-set_same, below_more}
 use borrow.Author.Differences.{ints}
 use Rattle.rows.specs.Places.{added, kept, weight}
 use Rattle.duties.specs.Duties.{wholes, sum_over, below as upto}

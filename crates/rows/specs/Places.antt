@@ -3,7 +3,7 @@ use Rattle.std.specs.Prelude.{◌≡◌, ℕ, Bool, true, false, cond, List, [],
 use Rattle.std.specs.declared.cmp.Ordering.{Ordering}
 use Rattle.std.specs.Ordering.{MatchOrdering}
 use Rattle.std.specs.Int.{int_max, int_min}
-use Rattle.std.specs.List.{AllByRecursion as All}
+use Rattle.std.specs.List.{AllByRecursion}
 
 -- ---- exact, place by place
 
@@ -41,7 +41,7 @@ Near q z = (neg_ℤ (pos q) ≤ℤ z) × (z ≤ℤ pos q)
 
 -- a row, each place within ±q
 abbrev pub Small : ℕ → List ℤ → Type 0
-Small q xs = All (Near q) xs
+Small q xs = AllByRecursion (Near q) xs
 
 -- ---- the order
 

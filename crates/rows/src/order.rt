@@ -1,9 +1,11 @@
 //! Which of two rows comes first, for `<`, `cmp` and their kin.
-ghost use Rattle.std.specs.Prelude.{◌≡◌, IsSomeAnd, Decides};
-ghost use Rattle.std.specs.Ordering.{is_eq};
+ghost use Rattle.std.specs.Prelude.{◌≡◌, Decides};
+ghost use Rattle.std.proofs.Common.{refl, Some};
+ghost use Rattle.std.specs.Cmp as Keys;
+ghost use Rattle.std.specs.Cmp.Lexicographic.{slice_cmp, lists_total, lists_ties};
+ghost use Rattle.std.specs.Ordering.{int_cmp, is_eq};
+ghost use Rattle.std.specs.Option.{IsSomeAnd};
 ghost use Rattle.rows.specs.Places.{Standing};
-ghost use Rattle.std.specs.Cmp.Rules.{comparing};
-ghost use Rattle.std.proofs.Common.{rules, arith};
 
 use crate::places::precedes;
 use crate::row::Row;
@@ -13,6 +15,7 @@ use std::cmp::Ordering;
 pub(crate) fn compare<const N: usize>(a: &Row<N>, b: &Row<N>) -> Ordering
     ensures stands { Standing a.now.places b.now.places result }
     ensures same { Decides (is_eq result) (a.now.places ≡ b.now.places) }
+    ensures value { result ≡ slice_cmp int_cmp a.now.places b.now.places }
 {
     if precedes(&a.places, &b.places) {
         Ordering::Less
@@ -24,25 +27,31 @@ pub(crate) fn compare<const N: usize>(a: &Row<N>, b: &Row<N>) -> Ordering
 }
 
 impl<const N: usize> PartialOrd for Row<N> {
-    ghost compares = { λ x y o. IsSomeAnd o (Standing x.places y.places) };
+    ghost partial_cmp = { λ x y. Some (slice_cmp int_cmp x.places y.places) };
 
-    ghost laws = { first_of (Prim.search (comparing, rules), Prim.grind (arith, Self.row.coded.inj)) };
+    ghost laws = { Keys.po (Keys.on_total (λ r. r.places) (lists_total Keys.int_cmp_total)) (λ x y. lists_ties int_cmp (λ _ _. refl) x.places y.places) };
 
-    fn partial_cmp(&self, other: &Row<N>) -> Option<Ordering> {
+    fn partial_cmp(&self, other: &Row<N>) -> Option<Ordering>
+        ensures value { result ≡ Some (slice_cmp int_cmp self.now.places other.now.places) }
+        ensures stands { IsSomeAnd result (Standing self.now.places other.now.places) }
+    {
         Some(self.cmp(other))
     }
 }
 
 impl<const N: usize> Ord for Row<N> {
-    ghost orders = { λ x y o. Standing x.places y.places o };
+    ghost cmp = { λ x y. slice_cmp int_cmp x.places y.places };
 
-    ghost total = { first_of (Prim.search (comparing, rules), Prim.grind (arith, Self.row.coded.inj)) };
+    ghost total = { Keys.on_total (λ r. r.places) (lists_total Keys.int_cmp_total) };
 
-    ghost matches_partial_cmp = { first_of (Prim.search (comparing, rules), Prim.grind (arith, Self.row.coded.inj)) };
+    ghost matches_partial_cmp = { λ _ _. refl };
 
-    ghost matches_eq = { first_of (Prim.search (comparing, rules), Prim.grind (arith, Self.row.coded.inj)) };
+    ghost matches_eq = { λ x y. lists_ties int_cmp (λ _ _. refl) x.places y.places };
 
-    fn cmp(&self, other: &Row<N>) -> Ordering {
+    fn cmp(&self, other: &Row<N>) -> Ordering
+        ensures value { result ≡ slice_cmp int_cmp self.now.places other.now.places }
+        ensures stands { Standing self.now.places other.now.places result }
+    {
         compare(self, other)
     }
 }

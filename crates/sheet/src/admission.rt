@@ -11,7 +11,7 @@ use faults::{Fault, Refusal};
 
 /// A fault of a sheet of this kind.
 pub(crate) fn fault_of<K: SheetKind>(kind: &K, refusal: Refusal, place: usize) -> Fault
-    ensures { result ≡ fault_at (rules kind.now).layer refusal place }
+    ensures { result ≡ fault_at (K.SheetKind.rules kind.now).layer refusal place }
 {
     Fault {
         refusal,
@@ -29,7 +29,7 @@ fn admit_numbers<K: SheetKind>(
     line: usize,
     numbers: &[u64],
 ) -> Result<K::Record, Fault>
-    ensures { result ≡ admitted (rules kind.now) room line earlier.now numbers.now }
+    ensures { result ≡ admitted (K.SheetKind.rules kind.now) room line earlier.now numbers.now }
 {
     let Some(new) = kind.made(line, numbers) else {
         return Err(fault_of(kind, Refusal::OutOfRange, line));
@@ -51,7 +51,7 @@ pub fn admit<K: SheetKind>(
     line: usize,
     numbers: &[u64],
 ) -> Result<K::Record, Fault>
-    ensures { MatchResult result (Admits (rules kind.now) room line earlier.now numbers.now) (Rejects (rules kind.now) room line earlier.now numbers.now) }
+    ensures { MatchResult result (Admits (K.SheetKind.rules kind.now) room line earlier.now numbers.now) (Rejects (K.SheetKind.rules kind.now) room line earlier.now numbers.now) }
 {
     admit_numbers(kind, earlier, room, line, numbers)
 }
@@ -65,7 +65,7 @@ pub(crate) fn judge<K: SheetKind>(
     row: &Row,
 ) -> Result<K::Record, Fault>
     ensures room { OnOk result (length earlier.now < room) }
-    ensures value { (fs : List (List ℕ)) → Holds row.now fs → result ≡ judged (rules kind.now) room line earlier.now fs }
+    ensures value { (fs : List (List ℕ)) → Holds row.now fs → result ≡ judged (K.SheetKind.rules kind.now) room line earlier.now fs }
 {
     if row.count > 8 || !kind.takes(row.count) {
         return Err(fault_of(kind, Refusal::FieldCount, line));

@@ -16,7 +16,7 @@ pub(crate) fn next_record<K: SheetKind>(
     earlier: &[K::Record],
     room: usize,
 ) -> Option<Result<K::Record, Fault>>
-    ensures { Finds (rules kind.now) room earlier.now (left reader.old) result (left reader.new) }
+    ensures { Finds (K.SheetKind.rules kind.now) room earlier.now (left reader.old) result (left reader.new) }
 {
     let mut row = Row::new();
     while let Some(token) = reader.next() {

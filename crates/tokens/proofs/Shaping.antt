@@ -1,6 +1,6 @@
 -- That lines, fields and trimmed text are what they should be. Assumes nothing.
 use Rattle.std.proofs.Common.{◌≡◌, ℕ, zero, suc, ◌+◌, ◌-◌, ◌<◌, Bool, true, false, cond, eqb, ◌⊎◌, List, [], ◌∷◌, ◌++◌, reverse, length, get_or, take, drop, replicate, sym, refl, ap, ◌∙◌, subst, inl, inr, ⊎_elim, append_assoc, arith}
-use Rattle.std.specs.List.{prefix_len, suffix_len, AllByRecursion as All}
+use Rattle.std.specs.List.{prefix_len, suffix_len, AllByRecursion}
 use Rattle.std.proofs.lemmas.List.{reverse-append, reverse-reverse, replicate_more, length-append, length-replicate, length-reverse, take_at, get_or-reverse}
 use Rattle.std.proofs.lemmas.Bool.{eqb-true, eqb-false, ne_eqb, cond_both, cond-false}
 use Rattle.tokens.specs.Text.{on_first, lines, pieces, space, trimmed, without_front, without_end}
@@ -72,11 +72,11 @@ lines_alone [] h s = absurd (omega arith)
 lines_alone (b ∷ []) h s = cond-false (eqb b 10) _ _ (ne_eqb b 10 h.0)
 lines_alone (b ∷ c ∷ l) h s = cond-false (eqb b 10) _ _ (ne_eqb b 10 h.0) ∙ ap (on_first b) (lines_alone (c ∷ l) h.1 (omega arith))
 
-lines_closed : (ls : List (List ℕ)) → All (Lacks 10) ls → lines (closed ls) ≡ ls
+lines_closed : (ls : List (List ℕ)) → AllByRecursion (Lacks 10) ls → lines (closed ls) ≡ ls
 lines_closed [] h = refl
 lines_closed (l ∷ ls) h = lines_front l (closed ls) h.0 ∙ ap (λ x. l ∷ x) (lines_closed ls h.1)
 
-lines_left : (front : List (List ℕ)) (last : List ℕ) → All (Lacks 10) (front ++ last ∷ []) → 0 < length last → lines (closed front ++ last) ≡ front ++ last ∷ []
+lines_left : (front : List (List ℕ)) (last : List ℕ) → AllByRecursion (Lacks 10) (front ++ last ∷ []) → 0 < length last → lines (closed front ++ last) ≡ front ++ last ∷ []
 lines_left [] last h s = lines_alone last h.0 s
 lines_left (l ∷ front) last h s =
     ap lines (append_assoc l (10 ∷ closed front) last) ∙ lines_front l (closed front ++ last) h.0 ∙ ap (λ x. l ∷ x) (lines_left front last h.1 s)
@@ -85,7 +85,7 @@ pub lines_only : (sheet : List ℕ) (ls : List (List ℕ)) → LinesOf sheet ls 
 lines_only sheet ls h =
     ⊎_elim
     (λ e. sym (ap lines e ∙ lines_closed ls h.0))
-    (λ x. x.2 ∙ sym (ap lines x.4 ∙ lines_left x.0 x.1 (subst (All (Lacks 10)) x.2 h.0) x.3))
+    (λ x. x.2 ∙ sym (ap lines x.4 ∙ lines_left x.0 x.1 (subst (AllByRecursion (Lacks 10)) x.2 h.0) x.3))
     h.1
 
 pieces_front : (p rest : List ℕ) → Lacks 59 p → pieces (p ++ 59 ∷ rest) ≡ p ∷ pieces rest
@@ -96,7 +96,7 @@ pieces_alone : (p : List ℕ) → Lacks 59 p → pieces p ≡ p ∷ []
 pieces_alone [] h = refl
 pieces_alone (b ∷ p) h = cond-false (eqb b 59) _ _ (ne_eqb b 59 h.0) ∙ ap (on_first b) (pieces_alone p h.1)
 
-pieces_joined : (p : List ℕ) (ps : List (List ℕ)) → All (Lacks 59) (p ∷ ps) → pieces (joined_by p ps) ≡ p ∷ ps
+pieces_joined : (p : List ℕ) (ps : List (List ℕ)) → AllByRecursion (Lacks 59) (p ∷ ps) → pieces (joined_by p ps) ≡ p ∷ ps
 pieces_joined p [] h = pieces_alone p h.0
 pieces_joined p (q ∷ ps) h = pieces_front p (joined_by q ps) h.0 ∙ ap (λ x. p ∷ x) (pieces_joined q ps h.1)
 

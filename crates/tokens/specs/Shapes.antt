@@ -1,10 +1,10 @@
 -- Lines, fields and trimmed text, each by what it is. Assumes nothing.
 use Rattle.std.specs.Prelude.{◌≡◌, ℕ, ◌-◌, ◌<◌, ◌⊎◌, List, [], ◌∷◌, ◌++◌, length, replicate, ◌≢◌, slice_index}
-use Rattle.std.specs.List.{AllByRecursion as All}
+use Rattle.std.specs.List.{AllByRecursion}
 use Rattle.tokens.specs.Text.{lines, pieces, trimmed}
 
 abbrev pub Lacks : ℕ → List ℕ → Type 0
-Lacks sep bs = All (λ b. b ≢ sep) bs
+Lacks sep bs = AllByRecursion (λ b. b ≢ sep) bs
 
 -- lines, each with its line feed
 abbrev pub closed : List (List ℕ) → List ℕ
@@ -14,7 +14,7 @@ closed (l ∷ ls) = l ++ 10 ∷ closed ls
 -- the last line may lack its line feed
 abbrev pub LinesOf : List ℕ → List (List ℕ) → Type 0
 LinesOf sheet ls =
-    All (Lacks 10) ls
+    AllByRecursion (Lacks 10) ls
     × ((sheet ≡ closed ls) ⊎ ((front : List (List ℕ)) × (last : List ℕ) × (ls ≡ front ++ last ∷ []) × (0 < length last) × (sheet ≡ closed front ++ last)))
 
 -- fields with a semicolon between each and the next
@@ -24,7 +24,7 @@ joined_by p (q ∷ ps) = p ++ 59 ∷ joined_by q ps
 
 abbrev pub PiecesOf : List ℕ → List (List ℕ) → Type 0
 PiecesOf line [] = ⊥
-PiecesOf line (p ∷ ps) = All (Lacks 59) (p ∷ ps) × (line ≡ joined_by p ps)
+PiecesOf line (p ∷ ps) = AllByRecursion (Lacks 59) (p ∷ ps) × (line ≡ joined_by p ps)
 
 -- t is f without the spaces around it
 abbrev pub Trims : List ℕ → List ℕ → Type 0

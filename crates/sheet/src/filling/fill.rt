@@ -11,7 +11,7 @@ use tokens::Reader;
 
 /// What `fill_sheet` does.
 fn fill_table<K: SheetKind>(kind: &K, sheet: &[u8], table: &mut [K::Record]) -> Filling
-    ensures { Fills (rules kind.now) sheet.now table.old result.count result.fault table.new }
+    ensures { Fills (K.SheetKind.rules kind.now) sheet.now table.old result.count result.fault table.new }
 {
     if sheet.len() > MOST_BYTES {
         let fault = Some(fault_of(kind, Refusal::InputTooLong, 0));
@@ -39,7 +39,7 @@ fn fill_table<K: SheetKind>(kind: &K, sheet: &[u8], table: &mut [K::Record]) -> 
 /// Reads a whole sheet into a table, from its first entry on. A table shorter than the sheet's records
 /// is refused as a sheet with too many of them; the entries past the records stay as they were.
 pub fn fill_sheet<K: SheetKind>(kind: &K, sheet: &[u8], table: &mut [K::Record]) -> Filling
-    ensures { Fills (rules kind.now) sheet.now table.old result.count result.fault table.new }
+    ensures { Fills (K.SheetKind.rules kind.now) sheet.now table.old result.count result.fault table.new }
 {
     fill_table(kind, sheet, table)
 }

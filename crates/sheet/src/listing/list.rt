@@ -16,7 +16,7 @@ pub(crate) const MOST_BYTES: usize = 60_000;
 
 /// What is amiss at the end of a sheet with this many records: too few of them, or nothing.
 pub(crate) fn lack_of_records<K: SheetKind>(kind: &K, count: usize) -> Option<Fault>
-    ensures { result ≡ lacking (rules kind.now) count }
+    ensures { result ≡ lacking (K.SheetKind.rules kind.now) count }
 {
     if count < kind.least() {
         Some(fault_of(kind, Refusal::RecordCount, 0))
@@ -32,8 +32,8 @@ pub fn list_sheet<K: SheetKind>(
     kind: &K,
     sheet: &[u8],
 ) -> Result<Listing<K::Record>, AllocError>
-    ensures reads { IfOk result (λ l. Reads (rules kind.now) (rules kind.now).most sheet.now l.records.items l.fault) }
-    ensures room { IfOk result (λ l. (rules kind.now).most ≤ vec_capacity l.records) }
+    ensures reads { IfOk result (λ l. Reads (K.SheetKind.rules kind.now) (K.SheetKind.rules kind.now).most sheet.now l.records.items l.fault) }
+    ensures room { IfOk result (λ l. (K.SheetKind.rules kind.now).most ≤ vec_capacity l.records) }
 {
     let room = kind.most();
     let mut records = Vec::with_capacity(heap, room)?;

@@ -2,8 +2,9 @@ use Rattle.std.proofs.Common.{subst}
 use Rattle.walks.specs.Tables.{TableOf}
 use Rattle.chart.proofs.finished.finish.Goals as goal
 
-pub invariant-of-result : goal.invariant-of-result
-invariant-of-result c = (
-  c.requires.room,
-  (c.requires.lawful, (∣ subst (λ es. TableOf es c.least-lengths-lengths.result.lengths) c.as-slice.ensures.value c.least-lengths-lengths.ensures ∣₁, tt)),
-)
+pub invariant_of-result : goal.invariant_of-result
+invariant_of-result c = record {
+  room = c.requires.room;
+  lawful = c.requires.lawful;
+  closed = ∣ subst (λ es. TableOf es c.least_lengths-lengths.result.lengths) c.as_slice.ensures.value c.least_lengths-lengths.ensures ∣₁;
+}

@@ -11,7 +11,7 @@ loop-to-init g c = begun g.W.Write.write_str_gives _ _ _ refl
 pub loop-to-preserved : goal.loop-to-preserved
 loop-to-preserved g c =
     let d = length_between c.args.chart.now.lengths.lengths c.args.from in
-    more g.W.Write.write_str_gives _ _ _ _ _ _ _ c.loop-to.invariant c.in-ok-put-cell.ensures
+    more g.W.Write.write_str_gives _ _ _ _ _ _ _ c.loop-to.invariant c.in_ok-put_cell.ensures
     (at_drop_more (cells_text d) c.args.berths.now c.loop-to.to-index 0 c.loop-to-test.true
     ∙ ap (λ o. cell_text o ++ cells_text d (drop (c.loop-to.to-index + 1) c.args.berths.now)) (sym c.distance.ensures.value))
 

@@ -10,7 +10,7 @@ loop-from-init g c = begun g.W.Write.write_str_gives _ _ _ refl
 
 pub loop-from-preserved : goal.loop-from-preserved
 loop-from-preserved g c =
-    more g.W.Write.write_str_gives _ _ _ _ _ _ _ c.loop-from.invariant c.in-ok-put-row.ensures
+    more g.W.Write.write_str_gives _ _ _ _ _ _ _ c.loop-from.invariant c.in_ok-put_row.ensures
     (at_drop_more (rows_text (length_between c.args.chart.now.lengths.lengths) c.args.berths.now) c.args.berths.now c.loop-from.from-index 0 c.loop-from-test.true)
 
 pub returns : goal.returns

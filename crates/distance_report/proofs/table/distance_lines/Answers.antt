@@ -8,13 +8,13 @@ use Rattle.distance_report.proofs.table.distance_lines.Goals as goal
 
 pub returns-in-None : goal.returns-in-None
 returns-in-None c =
-    let read = subst (Reads edge_rules 200 c.args.sheet.now (vec_items c.in-ok-chart.field-0.chart.edges)) c.in-None.is c.in-ok-chart.ensures in
+    let read = subst (Reads edge_rules 200 c.args.sheet.now (vec_items c.in_ok-chart.field-0.chart.edges)) c.in-None.is c.in_ok-chart.ensures in
     let table = c.close.result.lengths.lengths in
-    IfOk-weaker c.table-lines.result _ _
+    IfOk-weaker c.table_lines.result _ _
     (λ text p. (
       vec_items c.close.result.edges,
       None,
       subst (λ v. Reads edge_rules 200 c.args.sheet.now (vec_items v) None) (sym c.close.ensures) read,
       (length_between table, (λ x y. answer_least (vec_items c.close.result.edges) table x y (length_between table x y) c.close.result.closed refl), p),
     ))
-    c.table-lines.ensures
+    c.table_lines.ensures

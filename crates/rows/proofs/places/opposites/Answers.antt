@@ -5,8 +5,8 @@ use Rattle.rows.proofs.Bounds.{near_at}
 use Rattle.rows.proofs.Steps.{map_all, write_more, kept_opposite}
 use Rattle.rows.proofs.places.opposites.Goals as goal
 
-pub overflow-sub-out : goal.overflow-sub-out
-overflow-sub-out g c =
+pub overflow_sub-out : goal.overflow_sub-out
+overflow_sub-out g c =
     let a = near_at c.args.xs c.requires.near c.loop-i.i (omega arith) in
     omega (arith, ints)
 

@@ -2,8 +2,8 @@ use Rattle.std.proofs.Common.{arith}
 use Rattle.chart.proofs.Distances.{chart_laws, answer_least, answer_short}
 use Rattle.chart.proofs.finished.FinishedChart.minutes_between.Goals as goal
 
-pub overflow-cast-result : goal.overflow-cast-result
-overflow-cast-result c = omega (arith, answer_short _ _ c.args.from c.args.to c.in-Some.minutes c.args.self.now.lawful c.args.self.now.closed c.in-Some.ensures)
+pub overflow_cast-result : goal.overflow_cast-result
+overflow_cast-result c = omega (arith, answer_short _ _ c.args.from c.args.to c.in-Some.minutes c.args.self.now.lawful c.args.self.now.closed c.in-Some.ensures)
 
 pub returns-in-Some : goal.returns-in-Some
 returns-in-Some c = record {

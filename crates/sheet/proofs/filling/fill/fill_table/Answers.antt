@@ -8,15 +8,15 @@ loop-next-init g c = filling_begun (g.K.SheetKind.rules c.args.kind.now) c.min-r
 
 pub loop-next-preserved : goal.loop-next-preserved
 loop-next-preserved g c =
-    filling_more (g.K.SheetKind.rules c.args.kind.now) c.min-room.result c.args.sheet.now c.args.table.now c.loop-next.count c.loop-next.table (left c.loop-next.reader) c.loop-next.invariant (omega (arith, c.min-room.ensures)) (left c.next-record.new.reader)
+    filling_more (g.K.SheetKind.rules c.args.kind.now) c.min-room.result c.args.sheet.now c.args.table.now c.loop-next.count c.loop-next.table (left c.loop-next.reader) c.loop-next.invariant (omega (arith, c.min-room.ensures)) (left c.next_record.new.reader)
     _ _ c.in-Ok.is c.in-Some.ensures
 
 pub returns-in-Err : goal.returns-in-Err
 returns-in-Err g c =
-    filling_fails (g.K.SheetKind.rules c.args.kind.now) c.min-room.result c.args.sheet.now c.args.table.now c.loop-next.count c.loop-next.table (left c.loop-next.reader) c.loop-next.invariant (omega (arith, c.min-room.ensures)) (left c.next-record.new.reader)
-    (c.min-room.ensures ∙ ap (λ m. min m (length c.args.table.now)) c.most.ensures) c.if-sheet-gt-MOST-BYTES.false _ _ c.in-Err.is c.in-Some.ensures
+    filling_fails (g.K.SheetKind.rules c.args.kind.now) c.min-room.result c.args.sheet.now c.args.table.now c.loop-next.count c.loop-next.table (left c.loop-next.reader) c.loop-next.invariant (omega (arith, c.min-room.ensures)) (left c.next_record.new.reader)
+    (c.min-room.ensures ∙ ap (λ m. min m (length c.args.table.now)) c.most.ensures) c.if-sheet-gt-MOST_BYTES.false _ _ c.in-Err.is c.in-Some.ensures
 
 pub returns : goal.returns
 returns g c =
-    filling_ends (g.K.SheetKind.rules c.args.kind.now) c.min-room.result c.args.sheet.now c.args.table.now c.loop-next.count c.loop-next.table (left c.loop-next.reader) c.loop-next.invariant (omega (arith, c.min-room.ensures)) (left c.next-record.new.reader)
-    (c.min-room.ensures ∙ ap (λ m. min m (length c.args.table.now)) c.most.ensures) c.if-sheet-gt-MOST-BYTES.false _ c.lack-of-records-fault.ensures c.in-default.ensures
+    filling_ends (g.K.SheetKind.rules c.args.kind.now) c.min-room.result c.args.sheet.now c.args.table.now c.loop-next.count c.loop-next.table (left c.loop-next.reader) c.loop-next.invariant (omega (arith, c.min-room.ensures)) (left c.next_record.new.reader)
+    (c.min-room.ensures ∙ ap (λ m. min m (length c.args.table.now)) c.most.ensures) c.if-sheet-gt-MOST_BYTES.false _ c.lack_of_records-fault.ensures c.in_default.ensures
