@@ -6,7 +6,8 @@ use board::Board;
 use faults::Fault;
 use rules::{Rule, YardCents};
 use std::alloc::{AllocError, Global};
-use std::test::*;
+use std::process::Abort;
+use std::test::Fail;
 use trips::Trip;
 
 /// The rule of a quay from which every trip is served but those from berth 9, and none linked.
@@ -38,14 +39,19 @@ impl Rule for Quay {
 }
 
 /// What a call answers is this text, as users see it: a fault, or nothing where it is accepted.
-fn expect(heap: Global, answer: Result<(), Fault>, text: &str) -> Result<(), Fail> {
+fn expect(
+    rt: &impl Abort,
+    heap: Global,
+    answer: Result<(), Fault>,
+    text: &str,
+) -> Result<(), Fail> {
     match answer {
         Ok(()) => {
-            assert_eq!("", text);
+            assert_eq!(rt; "", text);
             Ok(())
         },
         Err(fault) => {
-            assert_eq!(format!(in heap; "{fault}")?.as_str(), text);
+            assert_eq!(rt; format!(in heap; "{fault}")?.as_str(), text);
             Ok(())
         },
     }
@@ -66,16 +72,16 @@ impl Trial {
         })
     }
 
-    fn add(&mut self, trip: Trip, text: &str) -> Result<(), Fail> {
-        expect(self.heap, self.board.add(&Quay, trip), text)
+    fn add(&mut self, rt: &impl Abort, trip: Trip, text: &str) -> Result<(), Fail> {
+        expect(rt, self.heap, self.board.add(&Quay, trip), text)
     }
 
-    fn withdraw(&mut self, number: u16, text: &str) -> Result<(), Fail> {
-        expect(self.heap, self.board.withdraw(number), text)
+    fn withdraw(&mut self, rt: &impl Abort, number: u16, text: &str) -> Result<(), Fail> {
+        expect(rt, self.heap, self.board.withdraw(number), text)
     }
 
-    fn set_limit(&mut self, limit: u16, text: &str) -> Result<(), Fail> {
-        expect(self.heap, self.board.set_limit(limit), text)
+    fn set_limit(&mut self, rt: &impl Abort, limit: u16, text: &str) -> Result<(), Fail> {
+        expect(rt, self.heap, self.board.set_limit(limit), text)
     }
 }
 
@@ -87,47 +93,47 @@ fn brief(number: u16, departure: u16) -> Trip {
 #[test]
 fn ranges_have_their_edges(rt: HostRuntime) -> Result<(), Fail> {
     let mut trial = Trial::new(rt.alloc())?;
-    trial.add(Trip::new(65_535, 31, 20_159, 31, 20_160), "")?;
-    trial.add(Trip::new(1, 0, 0, 0, 1), "")?;
-    trial.add(Trip::new(0, 0, 0, 0, 1), "refused 13 board 0")?;
-    trial.add(Trip::new(7, 32, 0, 0, 1), "refused 13 board 7")?;
-    trial.add(Trip::new(7, 0, 0, 32, 1), "refused 13 board 7")?;
-    trial.add(Trip::new(7, 0, 0, 0, 20_161), "refused 13 board 7")?;
-    trial.add(Trip::new(7, 0, 20_161, 0, 1), "refused 13 board 7")?;
-    trial.add(Trip::new(7, 0, 5, 0, 5), "refused 14 board 7")
+    trial.add(&rt, Trip::new(65_535, 31, 20_159, 31, 20_160), "")?;
+    trial.add(&rt, Trip::new(1, 0, 0, 0, 1), "")?;
+    trial.add(&rt, Trip::new(0, 0, 0, 0, 1), "refused 13 board 0")?;
+    trial.add(&rt, Trip::new(7, 32, 0, 0, 1), "refused 13 board 7")?;
+    trial.add(&rt, Trip::new(7, 0, 0, 32, 1), "refused 13 board 7")?;
+    trial.add(&rt, Trip::new(7, 0, 0, 0, 20_161), "refused 13 board 7")?;
+    trial.add(&rt, Trip::new(7, 0, 20_161, 0, 1), "refused 13 board 7")?;
+    trial.add(&rt, Trip::new(7, 0, 5, 0, 5), "refused 14 board 7")
 }
 
 #[test]
 fn the_first_reason_is_given(rt: HostRuntime) -> Result<(), Fail> {
     let mut trial = Trial::new(rt.alloc())?;
-    trial.add(brief(5, 10), "")?;
-    trial.add(Trip::new(5, 32, 7, 0, 6), "refused 13 board 5")?;
-    trial.add(Trip::new(5, 9, 7, 0, 6), "refused 14 board 5")?;
-    trial.add(Trip::new(5, 9, 7, 0, 8), "refused 15 board 5")?;
-    trial.add(Trip::new(6, 9, 7, 0, 8), "refused 16 board 6")
+    trial.add(&rt, brief(5, 10), "")?;
+    trial.add(&rt, Trip::new(5, 32, 7, 0, 6), "refused 13 board 5")?;
+    trial.add(&rt, Trip::new(5, 9, 7, 0, 6), "refused 14 board 5")?;
+    trial.add(&rt, Trip::new(5, 9, 7, 0, 8), "refused 15 board 5")?;
+    trial.add(&rt, Trip::new(6, 9, 7, 0, 8), "refused 16 board 6")
 }
 
 #[test]
 fn two_hundred_trips_fill_a_board(rt: HostRuntime) -> Result<(), Fail> {
     let mut trial = Trial::new(rt.alloc())?;
     for number in 1..201 {
-        trial.add(brief(number, 7), "")?;
+        trial.add(&rt, brief(number, 7), "")?;
     }
     assert_eq!(rt; trial.board.trips().len(), 200);
-    trial.add(brief(201, 7), "refused 17 board 201")?;
-    trial.add(Trip::new(201, 9, 7, 0, 8), "refused 16 board 201")?;
-    trial.add(brief(200, 7), "refused 15 board 200")?;
-    trial.withdraw(200, "")?;
-    trial.add(brief(201, 7), "")
+    trial.add(&rt, brief(201, 7), "refused 17 board 201")?;
+    trial.add(&rt, Trip::new(201, 9, 7, 0, 8), "refused 16 board 201")?;
+    trial.add(&rt, brief(200, 7), "refused 15 board 200")?;
+    trial.withdraw(&rt, 200, "")?;
+    trial.add(&rt, brief(201, 7), "")
 }
 
 #[test]
 fn a_trip_is_withdrawn_once(rt: HostRuntime) -> Result<(), Fail> {
     let mut trial = Trial::new(rt.alloc())?;
-    trial.add(brief(5, 10), "")?;
-    trial.withdraw(5, "")?;
-    trial.withdraw(5, "refused 18 board 5")?;
-    trial.add(brief(5, 30), "")?;
+    trial.add(&rt, brief(5, 10), "")?;
+    trial.withdraw(&rt, 5, "")?;
+    trial.withdraw(&rt, 5, "refused 18 board 5")?;
+    trial.add(&rt, brief(5, 30), "")?;
     assert_eq!(rt; trial.board.trips().len(), 1);
     Ok(())
 }
@@ -135,11 +141,11 @@ fn a_trip_is_withdrawn_once(rt: HostRuntime) -> Result<(), Fail> {
 #[test]
 fn trips_stand_by_departure_and_number(rt: HostRuntime) -> Result<(), Fail> {
     let mut trial = Trial::new(rt.alloc())?;
-    trial.add(brief(3, 20), "")?;
-    trial.add(brief(9, 10), "")?;
-    trial.add(brief(2, 20), "")?;
-    trial.add(brief(1, 30), "")?;
-    trial.withdraw(3, "")?;
+    trial.add(&rt, brief(3, 20), "")?;
+    trial.add(&rt, brief(9, 10), "")?;
+    trial.add(&rt, brief(2, 20), "")?;
+    trial.add(&rt, brief(1, 30), "")?;
+    trial.withdraw(&rt, 3, "")?;
     let trips = trial.board.trips();
     assert!(rt; trips.len() == 3);
     assert_eq!(rt;
@@ -153,8 +159,8 @@ fn trips_stand_by_departure_and_number(rt: HostRuntime) -> Result<(), Fail> {
 fn the_limit_is_at_most_200(rt: HostRuntime) -> Result<(), Fail> {
     let mut trial = Trial::new(rt.alloc())?;
     assert_eq!(rt; trial.board.limit(), 0);
-    trial.set_limit(200, "")?;
-    trial.set_limit(201, "refused 19 board 201")?;
+    trial.set_limit(&rt, 200, "")?;
+    trial.set_limit(&rt, 201, "refused 19 board 201")?;
     assert_eq!(rt; trial.board.limit(), 200);
     Ok(())
 }

@@ -1,5 +1,5 @@
 -- What plan answers tells when exactly hulls are too few, and when exactly a plan is accepted.
-use Rattle.std.proofs.Common.{◌≡◌, ℕ, ◌<◌, ◌≤◌, true, false, List, map, length, get_or, take, ℤ, is_ok, Ok, Err, Result, sym, refl, ap, ◌∙◌, subst, arith}
+use Rattle.std.proofs.Common.{◌≡◌, ℕ, List, ℤ, Ok, Err, Result, sym, refl, ap, ◌∙◌, arith}
 use Rattle.std.proofs.lemmas.Bool.{false≢true}
 use Rattle.faults.specs.declared.fault.Fault.{Fault}
 use Rattle.faults.specs.declared.layer.Layer.TheVariants.{Board, Planner}
@@ -8,11 +8,10 @@ use Rattle.faults.specs.Shown.{fault_at}
 use Rattle.faults.specs.Numbers.{number_of}
 use Rattle.trips.specs.declared.trip.Trip.{Trip}
 use Rattle.board.specs.Standing.{AllServed}
-use Rattle.duties.specs.Duties.{Cover}
-use Rattle.duties.specs.Plans.{Accepted, TooFew}
+use Rattle.duties.specs.Plans.{Accepted}
 use Rattle.plans.specs.declared.plan.Plan.{Plan}
 use Rattle.plans.specs.Terms.{Terms, day_of}
-use Rattle.plans.specs.Answers.{Tables, FirstUnserved, Plannable, TooDear, Answers}
+use Rattle.plans.specs.Answers.{Tables, Answers}
 use Rattle.plans.specs.Answers.Answers.{not_served, table_too_short, fee_too_high, too_few_hulls, cost_too_high, planned}
 use Rattle.plans.specs.Exact.{EveryCoverOver, Exact}
 
@@ -40,38 +39,38 @@ module _ {V : Type 0} (row : V → List ℤ) (terms : Terms) (ts : List Trip) (l
       record {
         too_few_when = λ p over. absurd (false≢true (sym u.unserved ∙ p.served k u.within));
         too_few_only = λ fewest e. absurd (not_22 _ fewest (λ z. omega arith) e);
-        else-accepted = λ p some cheap. absurd (false≢true (sym u.unserved ∙ p.served k u.within));
+        else_accepted = λ p some cheap. absurd (false≢true (sym u.unserved ∙ p.served k u.within));
       }
   exact answer after (table_too_short s short) =
       record {
         too_few_when = λ p over. absurd (false≢true (sym p.long ∙ short));
         too_few_only = λ fewest e. absurd (not_22 _ fewest (λ z. omega arith) e);
-        else-accepted = λ p some cheap. absurd (false≢true (sym p.long ∙ short));
+        else_accepted = λ p some cheap. absurd (false≢true (sym p.long ∙ short));
       }
   exact answer after (fee_too_high s long high) =
       record {
         too_few_when = λ p over. absurd (false≢true (sym p.fee_within ∙ high));
         too_few_only = λ fewest e. absurd (not_22 _ fewest (λ z. omega arith) e);
-        else-accepted = λ p some cheap. absurd (false≢true (sym p.fee_within ∙ high));
+        else_accepted = λ p some cheap. absurd (false≢true (sym p.fee_within ∙ high));
       }
   exact answer after (too_few_hulls p fewest few written same) =
       let over : EveryCoverOver terms ts limit = λ ds c. let l = few.least ds c in let o = few.over in omega arith in
       record {
         too_few_when = λ p o. (fewest, refl);
         too_few_only = λ other e. over;
-        else-accepted = λ p some cheap. absurd (some over);
+        else_accepted = λ p some cheap. absurd (some over);
       }
   exact answer after (cost_too_high p dear written same) =
       record {
         too_few_when = λ p over. absurd (one_within _ terms ts limit _ _ _ _ _ dear.accepted over);
         too_few_only = λ fewest e. absurd (not_22 _ fewest (λ z. omega arith) e);
-        else-accepted = λ p some cheap. absurd (cheap dear);
+        else_accepted = λ p some cheap. absurd (cheap dear);
       }
   exact answer after (planned p plan written w within) =
       record {
         too_few_when = λ p over. absurd (one_within _ terms ts limit _ _ _ _ _ w.accepted over);
         too_few_only = λ fewest e. absurd (not_22 _ fewest (λ z. omega arith) e);
-        else-accepted = λ p some cheap. refl;
+        else_accepted = λ p some cheap. refl;
       }
 
   -- where every trip is served, no plan is refused because one is not

@@ -1,5 +1,5 @@
 -- What plan answers, and what the tables hold after it. Assumes nothing.
-use Rattle.std.specs.Prelude.{◌≡◌, ℕ, ◌+◌, ◌*◌, ◌<◌, ◌≤◌, Bool, true, false, ◌||◌, List, [], ◌∷◌, map, length, get_or, take, drop, ℤ, pos, neg_ℤ, is_some, Ok, Err, Option, Result, int_lt, nat_lt, slice_index_or}
+use Rattle.std.specs.Prelude.{◌≡◌, ℕ, ◌+◌, ◌*◌, ◌<◌, Bool, true, false, ◌||◌, List, [], ◌∷◌, map, length, get_or, take, drop, ℤ, pos, neg_ℤ, is_some, Ok, Err, Option, Result, int_lt, nat_lt, slice_index_or}
 use Rattle.faults.specs.declared.fault.Fault.{Fault}
 use Rattle.faults.specs.declared.layer.Layer.TheVariants.{Board, Planner}
 use Rattle.faults.specs.declared.refusal.Refusal.TheVariants.{NotServed, TableTooShort, FeeTooHigh, TooFewHulls, CostTooHigh}

@@ -1,5 +1,5 @@
 -- When exactly hulls are too few, and when exactly a plan is accepted. Assumes nothing.
-use Rattle.std.specs.Prelude.{◌≡◌, ℕ, ◌<◌, ◌≤◌, true, List, length, ℤ, is_ok, Ok, Err, Result}
+use Rattle.std.specs.Prelude.{◌≡◌, ℕ, ◌<◌, true, List, length, is_ok, Err, Result}
 use Rattle.faults.specs.declared.fault.Fault.{Fault}
 use Rattle.faults.specs.declared.layer.Layer.TheVariants.{Planner}
 use Rattle.faults.specs.declared.refusal.Refusal.TheVariants.{TooFewHulls}
@@ -19,4 +19,4 @@ EveryCoverOver terms ts limit = (ds : List (List ℕ)) → Cover (day_of terms t
 pub record Exact {V : Type 0} (terms : Terms) (ts : List Trip) (limit : ℕ) (before : Tables V) (answer : Result (Plan V) Fault) : Type 0 where
   pub too_few_when : Plannable terms ts before → EveryCoverOver terms ts limit → (fewest : ℕ) × (answer ≡ Err (fault_at Planner TooFewHulls fewest))
   pub too_few_only : (fewest : ℕ) → answer ≡ Err (fault_at Planner TooFewHulls fewest) → EveryCoverOver terms ts limit
-  pub else-accepted : Plannable terms ts before → (EveryCoverOver terms ts limit → ⊥) → (TooDear terms.places (day_of terms ts) limit → ⊥) → is_ok answer ≡ true
+  pub else_accepted : Plannable terms ts before → (EveryCoverOver terms ts limit → ⊥) → (TooDear terms.places (day_of terms ts) limit → ⊥) → is_ok answer ≡ true

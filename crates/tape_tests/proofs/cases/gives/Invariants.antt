@@ -3,4 +3,4 @@ use Rattle.tape.specs.Readers.{left}
 use Rattle.tape_tests.proofs.cases.gives.Given as goal
 
 abbrev pub decreases-loop-item : goal.decreases-loop-item
-decreases-loop-item l = length (left l.reader)
+decreases-loop-item g l = length (left l.reader)

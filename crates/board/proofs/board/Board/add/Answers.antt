@@ -17,10 +17,10 @@ use Rattle.board.proofs.board.Board.add.Goals.{After-insert}
 use Rattle.board.proofs.board.Board.add.Goals as goal
 
 pub insert-requires : goal.insert-requires
-insert-requires g c = omega (arith, prefix_len-le-length (λ x. before x c.args.trip) c.as-slice-2.result.now, c.place-at.ensures, c.as-slice-2.ensures.len)
+insert-requires g c = omega (arith, prefix_len-le-length (λ x. before x c.args.trip) c.as_slice-2.result.now, c.place-at.ensures, c.as_slice-2.ensures.len)
 
 none : (g : given.Over) (c : goal.After-insert g) → add_refusal (g.R.Rule.yard c.args.rule.now) (vec_items c.args.self.now.trips) c.args.trip ≡ None
-none g c = sym (c.in-default.ensures ∙ ap (λ l. add_refusal (g.R.Rule.yard c.args.rule.now) l c.args.trip) c.as-slice.ensures.value)
+none g c = sym (c.in_default.ensures ∙ ap (λ l. add_refusal (g.R.Rule.yard c.args.rule.now) l c.args.trip) c.as_slice.ensures.value)
 
 fresh : (g : given.Over) (c : goal.After-insert g) → Welcome (g.R.Rule.yard c.args.rule.now) (vec_items c.args.self.now.trips) c.args.trip
 fresh g c = welcome (g.R.Rule.yard c.args.rule.now) (vec_items c.args.self.now.trips) c.args.trip (none g c)
@@ -32,36 +32,26 @@ put : (g : given.Over) (c : goal.After-insert g) → vec_items c.insert.new.self
 put g c =
     let b = c.args.self.now in
     chosen _ _ _ _ c.insert.ensures.items (c.insert.ensures.succeeds (room g c))
-    ∙ ap (λ p. insert (vec_items b.trips) p c.args.trip) (c.place-at.ensures ∙ ap (λ l. prefix_len (λ x. before x c.args.trip) l) c.as-slice-2.ensures.value)
+    ∙ ap (λ p. insert (vec_items b.trips) p c.args.trip) (c.place-at.ensures ∙ ap (λ l. prefix_len (λ x. before x c.args.trip) l) c.as_slice-2.ensures.value)
     ∙ inserted_added (vec_items b.trips) c.args.trip b.ordered (fresh g c).new
 
-pub invariant-of-self : goal.invariant-of-self
-invariant-of-self g c =
+pub invariant_of-self : goal.invariant_of-self
+invariant_of-self g c =
     let b = c.args.self.now in
     let f = fresh g c in
     let free = f.room in
     let k = b.trips.ok.0 in
     let grown = chosen _ _ _ _ c.insert.ensures.len (c.insert.ensures.succeeds (room g c)) in
     let cap = c.insert.ensures.capacity in
-    let is = sym (put g c) in (
-      omega arith,
-      (
-        omega arith,
-        (
-          b.limited,
-          (
-            subst InOrder is (added_in_order (vec_items b.trips) c.args.trip b.ordered f.new),
-            (
-              subst NumbersDiffer is (added_numbers_differ (vec_items b.trips) c.args.trip b.ordered f.new b.differ),
-              (
-                subst AllSound is (added_each (vec_items b.trips) c.args.trip b.ordered f.new (λ t. (in_range t && departs_first t) ≡ true) b.sound f.sound),
-                tt,
-              ),
-            ),
-          ),
-        ),
-      ),
-    )
+    let is = sym (put g c) in
+    record {
+      few = omega arith;
+      room = omega arith;
+      limited = b.limited;
+      ordered = subst InOrder is (added_in_order (vec_items b.trips) c.args.trip b.ordered f.new);
+      differ = subst NumbersDiffer is (added_numbers_differ (vec_items b.trips) c.args.trip b.ordered f.new b.differ);
+      sound = subst AllSound is (added_each (vec_items b.trips) c.args.trip b.ordered f.new (λ t. (in_range t && departs_first t) ≡ true) b.sound f.sound);
+    }
 
 pub returns : goal.returns
 returns g c =

@@ -6,12 +6,12 @@ use Rattle.board.proofs.board.places.place.Goals as goal
 
 pub loop-at-preserved : goal.loop-at-preserved
 loop-at-preserved c =
-    let more = prefix_len-drop_yes (λ x. before x c.args.trip.now) c.args.trips.now c.loop-at.at no_trip c.loop-at-test.true (sym c.if-stands-before.ensures) in
+    let more = prefix_len-drop_yes (λ x. before x c.args.trip.now) c.args.trips.now c.loop-at.at no_trip c.loop-at-test.true (sym c.if-stands_before.ensures) in
     omega (arith, more, c.loop-at.invariant)
 
-pub returns-else-stands-before : goal.returns-else-stands-before
-returns-else-stands-before c =
-    let none = prefix_len-drop_no (λ x. before x c.args.trip.now) c.args.trips.now c.loop-at.at no_trip c.loop-at-test.true (sym c.if-stands-before.ensures) in
+pub returns-else-stands_before : goal.returns-else-stands_before
+returns-else-stands_before c =
+    let none = prefix_len-drop_no (λ x. before x c.args.trip.now) c.args.trips.now c.loop-at.at no_trip c.loop-at-test.true (sym c.if-stands_before.ensures) in
     omega (arith, none, c.loop-at.invariant)
 
 pub returns-after-loop-at : goal.returns-after-loop-at

@@ -5,6 +5,6 @@ use Rattle.tape.proofs.reader.TapeReader.from_offset.Goals as goal
 
 pub returns : goal.returns
 returns c = record {
-  comes = ap (λ b. to_hand_on b c.args.tape.now c.args.at) c.is-overlong.ensures;
-  format = tape_gives c.args.tape.now (λ i. omega (arith, c.type-inv.tape i));
+  comes = ap (λ b. to_hand_on b c.args.tape.now c.args.at) c.is_overlong.ensures;
+  format = tape_gives c.args.tape.now (λ i. omega (arith, c.type_inv.tape i));
 }
