@@ -1,12 +1,12 @@
 -- What holds of all rows. Assumes nothing.
-use Rattle.std.specs.Prelude.{◌≡◌, ℕ, ◌+◌, ◌<◌, ◌≤◌, List, length, get_or, ℤ, pos, ◌+ℤ◌, ◌*ℤ◌, neg_ℤ, ◌<ℤ◌, Decides, int_lt, slice_index_or}
+use Rattle.std.specs.Prelude.{◌≡◌, ℕ, ◌+◌, ◌<◌, ◌≤◌, List, length, ℤ, pos, ◌+ℤ◌, ◌*ℤ◌, neg_ℤ, ◌<ℤ◌, Decides, int_lt, slice_index_or}
 use Rattle.rows.specs.Places.{added, opposite, scaled, most, held, kept, Near, Small, below, weight, wide}
 
 -- The place k is the first where two rows differ, and there the first row has less.
 pub record LessFirstAt (xs ys : List ℤ) (k : ℕ) : Type 0 where
   pub within : k < length xs
   pub alike : (i : ℕ) → i < k → slice_index_or xs i (pos 0) ≡ slice_index_or ys i (pos 0)
-  pub less : get_or xs k (pos 0) <ℤ slice_index_or ys k (pos 0)
+  pub less : slice_index_or xs k (pos 0) <ℤ slice_index_or ys k (pos 0)
 
 -- Of two rows of one length, one is below the other exactly when it has less at the first place where they differ.
 abbrev pub FirstDifferenceDecides : Type 0
