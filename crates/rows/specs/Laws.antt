@@ -1,6 +1,8 @@
 -- What holds of all rows. Assumes nothing.
 use Rattle.std.specs.Prelude.{◌≡◌, ℕ, ◌+◌, ◌<◌, ◌≤◌, List, length, ℤ, pos, ◌+ℤ◌, ◌*ℤ◌, neg_ℤ, ◌<ℤ◌, Decides, int_lt, slice_index_or}
-use Rattle.rows.specs.Places.{added, opposite, scaled, most, held, kept, Near, Small, below, weight, wide}
+use Rattle.std.specs.Ordering.{int_cmp, int_eq}
+use Rattle.std.specs.Cmp.Lexicographic.{slice_cmp, pointwise}
+use Rattle.rows.specs.Places.{added, opposite, scaled, most, held, kept, Near, Small, below, Standing, weight, wide}
 
 -- The place k is the first where two rows differ, and there the first row has less.
 pub record LessFirstAt (xs ys : List ℤ) (k : ℕ) : Type 0 where
@@ -42,6 +44,14 @@ BoundHolds = (z : ℤ) → HeldRight z
 abbrev pub NearSumsExact : Type 0
 NearSumsExact = (p q : ℕ) (xs ys : List ℤ) → Small p xs → Small q ys → p + q ≤ most → kept (added xs ys) ≡ added xs ys
 
+-- What `cmp` answers, place by place, says how two rows stand.
+abbrev pub CmpTellsStanding : Type 0
+CmpTellsStanding = (xs ys : List ℤ) → Standing xs ys (slice_cmp int_cmp xs ys)
+
+-- What `==` answers, place by place, says whether two rows are the same.
+abbrev pub EqTellsSame : Type 0
+EqTellsSame = (xs ys : List ℤ) → Decides (pointwise int_eq xs ys) (xs ≡ ys)
+
 -- the laws of rows
 pub record RowLaws : Type 0 where
   pub decides : FirstDifferenceDecides
@@ -51,3 +61,5 @@ pub record RowLaws : Type 0 where
   pub scales : MultipleWeighsMultiple
   pub holds : BoundHolds
   pub exact : NearSumsExact
+  pub stands : CmpTellsStanding
+  pub same : EqTellsSame
