@@ -1,8 +1,8 @@
 -- From what was looked at and searched to what plan answers.
-use Rattle.std.proofs.Common.{◌≡◌, ℕ, true, false, List, length, get_or, ℤ, Ok, Err, sym, refl, ap, ◌∙◌, subst}
+use Rattle.std.proofs.Common.{◌≡◌, ℕ, true, false, List, length, get_or, ℤ, Ok, Err, sym, subst}
 use Rattle.faults.specs.declared.fault.Fault.{Fault}
 use Rattle.faults.specs.declared.layer.Layer.TheVariants.{Board, Planner}
-use Rattle.faults.specs.declared.refusal.Refusal.TheVariants.{NotServed, TableTooShort, FeeTooHigh, TooFewHulls, CostTooHigh}
+use Rattle.faults.specs.declared.refusal.Refusal.TheVariants.{NotServed, TableTooShort, FeeTooHigh}
 use Rattle.faults.specs.Shown.{fault_at}
 use Rattle.trips.specs.declared.trip.Trip.{Trip}
 use Rattle.trips.specs.Default.{no_trip}

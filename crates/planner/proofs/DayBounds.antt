@@ -1,5 +1,5 @@
 -- On a board, links go to later positions, since a trip that is linked departs no earlier than the first arrives; and each cost is within the tariff's bounds.
-use Rattle.std.proofs.Common.{◌≡◌, ℕ, ◌<◌, ◌≤◌, Bool, true, false, cond, ◌&&◌, ◌||◌, eqb, ltb, ◌⊎◌, List, length, get_or, ℤ, Some, None, Option, sym, refl, ap, ◌∙◌, subst, inl, inr, arith, ltb-true}
+use Rattle.std.proofs.Common.{◌≡◌, ℕ, ◌<◌, ◌≤◌, Bool, true, false, cond, ltb, List, length, get_or, ℤ, Some, None, Option, sym, refl, ap, ◌∙◌, subst, inl, inr, arith, ltb-true}
 use Rattle.std.proofs.lemmas.Bool.{cases_lt, cases_eq, and_parts}
 use Rattle.std.proofs.lemmas.Bool.Decides.{nat_tests}
 use Rattle.std.specs.Option.{option_map}
@@ -9,8 +9,8 @@ use Rattle.trips.specs.Default.{no_trip}
 use Rattle.board.specs.Order.{before}
 use Rattle.board.specs.Ranges.{in_range, departs_first}
 use Rattle.board.specs.Standing.{Standing}
-use Rattle.matchings.specs.Rowed.{Bounded, Fine}
-use Rattle.plans.specs.Terms.{Terms, link_at, day_of}
+use Rattle.matchings.specs.Rowed.{Bounded}
+use Rattle.plans.specs.Terms.{Terms, day_of}
 
 -- a trip that stands before another departs no later
 departs_no_later : (a b : Trip) → before a b ≡ true → a.departure ≤ b.departure

@@ -1,5 +1,5 @@
 -- What the end of a search means for the day that was searched.
-use Rattle.std.proofs.Common.{◌≡◌, ℕ, ◌<◌, ◌≤◌, true, List, map, length, ℤ, pos, sym, refl, ap, ◌∙◌, subst, arith, w64, to_z}
+use Rattle.std.proofs.Common.{◌≡◌, ℕ, ◌≤◌, true, List, map, length, ℤ, pos, sym, ◌∙◌, subst, arith, w64, to_z}
 use borrow.Author.Differences.{ints}
 use Rattle.std.proofs.lemmas.List.{length-map}
 use Rattle.rows.specs.Places.{added, opposite, scaled, kept}

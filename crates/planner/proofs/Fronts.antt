@@ -1,12 +1,11 @@
 -- What tables hold after a search in their fronts.
-use Rattle.std.proofs.Common.{◌≡◌, ℕ, zero, suc, ◌+◌, ◌<◌, ◌≤◌, List, [], ◌∷◌, ◌++◌, map, length, take, drop, ℤ, Ok, Err, Result, sym, refl, ap, ◌∙◌, subst, arith}
+use Rattle.std.proofs.Common.{◌≡◌, ℕ, List, [], ◌∷◌, ◌++◌, map, length, take, drop, ℤ, Ok, Err, Result, sym, refl, ap, ◌∙◌, subst}
 use borrow.Rule.Slice.PartMut.{put_mid}
 use Rattle.std.proofs.lemmas.List.{take-append-drop}
 use Rattle.duties.specs.Plans.{Accepted}
 use Rattle.trips.specs.declared.trip.Trip.{Trip}
 use Rattle.plans.specs.declared.plan.Plan.{Plan}
 use Rattle.plans.specs.Terms.{Terms, day_of}
-use Rattle.plans.specs.Answers.{Tables}
 use Rattle.planner.specs.declared.outcome.Unplanned.{Unplanned}
 use Rattle.planner.specs.Outcomes.{Comes}
 use Rattle.planner.specs.Answered.{Searched}

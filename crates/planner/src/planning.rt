@@ -90,9 +90,9 @@ fn search_fronts<'a, R: Rule, T: Tariff>(
     ensures { Searched T.Value.Rowed.row
         (record { yard = R.Rule.yard rule.now; link = R.Rule.link rule.now; places = T.Value.Rowed.count; opens = T.Tariff.opens tariff.now; links = T.Tariff.links tariff.now; homes = T.Tariff.homes tariff.now; fee = fee })
         trips.now limit
-        (record { successors = successors.entry.now; prices = prices.old; numbers = numbers.old; values = values.old })
+        (record { successors = successors.old; prices = prices.old; numbers = numbers.old; values = values.old })
         result
-        (record { successors = successors.exit.now; prices = prices.new; numbers = numbers.new; values = values.new }) }
+        (record { successors = successors.new; prices = prices.new; numbers = numbers.new; values = values.new }) }
 {
     let n = trips.len();
     search_day(
@@ -125,9 +125,9 @@ fn answer<'a, R: Rule, T: Tariff>(
     ensures { Answers T.Value.Rowed.row
         (record { yard = R.Rule.yard rule.now; link = R.Rule.link rule.now; places = T.Value.Rowed.count; opens = T.Tariff.opens tariff.now; links = T.Tariff.links tariff.now; homes = T.Tariff.homes tariff.now; fee = fee })
         trips.now limit
-        (record { successors = successors.entry.now; prices = prices.old; numbers = numbers.old; values = values.old })
+        (record { successors = successors.old; prices = prices.old; numbers = numbers.old; values = values.old })
         result
-        (record { successors = successors.exit.now; prices = prices.new; numbers = numbers.new; values = values.new }) }
+        (record { successors = successors.new; prices = prices.new; numbers = numbers.new; values = values.new }) }
 {
     if let Some(k) = first_unserved(rule, trips) {
         return Err(not_served(trips[k].number));
@@ -170,9 +170,9 @@ pub fn plan<'a, R: Rule, T: Tariff>(
     ensures { Answers T.Value.Rowed.row
         (record { yard = R.Rule.yard rule.now; link = R.Rule.link rule.now; places = T.Value.Rowed.count; opens = T.Tariff.opens tariff.now; links = T.Tariff.links tariff.now; homes = T.Tariff.homes tariff.now; fee = fee })
         (trips_of board.now) (limit_of board.now)
-        (record { successors = successors.entry.now; prices = prices.old; numbers = numbers.old; values = values.old })
+        (record { successors = successors.old; prices = prices.old; numbers = numbers.old; values = values.old })
         result
-        (record { successors = successors.exit.now; prices = prices.new; numbers = numbers.new; values = values.new }) }
+        (record { successors = successors.new; prices = prices.new; numbers = numbers.new; values = values.new }) }
 {
     answer(
         board.trips(),

@@ -1,4 +1,4 @@
-use Rattle.std.proofs.Common.{arith, rules}
+use Rattle.std.proofs.Common.{rules}
 use Rattle.plans.specs.Terms.{Terms}
 use Rattle.planner.proofs.DayBounds.{day_bounded}
 use Rattle.planner.proofs.planning.search_day.Goals as goal
@@ -27,7 +27,7 @@ outcome-requires g c =
       prior_long = search rules;
       reached_long = search rules;
       via_long = search rules;
-      coming-long = search rules;
-      leaving-long = search rules;
+      coming_long = search rules;
+      leaving_long = search rules;
       slack_long = search rules;
     }

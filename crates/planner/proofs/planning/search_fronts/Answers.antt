@@ -17,6 +17,6 @@ returns g c =
     } in
     let n = length c.args.trips.now in
     let e : n - 0 ≡ n = omega arith in
-    let ls : length c.search-day.new.successors ≡ n = search rules in
-    let lp : length c.search-day.new.prices ≡ n = search rules in
-    in-fronts g.T.Value.Rowed.row terms c.args.trips.now _ c.args.successors.now c.search-day.new.successors c.args.prices.now c.search-day.new.prices _ e ls lp _ _ _ _ c.search-day.result c.search-day.ensures
+    let ls : length c.search_day.new.successors ≡ n = search rules in
+    let lp : length c.search_day.new.prices ≡ n = search rules in
+    in-fronts g.T.Value.Rowed.row terms c.args.trips.now _ c.args.successors.now c.search_day.new.successors c.args.prices.now c.search_day.new.prices _ e ls lp _ _ _ _ c.search_day.result c.search_day.ensures

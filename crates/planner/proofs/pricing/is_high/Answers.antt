@@ -1,17 +1,17 @@
-use Rattle.std.proofs.Common.{◌≡◌, true, false, sym, refl, ap, ◌∙◌, arith, rules}
+use Rattle.std.proofs.Common.{sym, ap, ◌∙◌, arith}
 use Rattle.planner.specs.Costs.{past_place}
 use Rattle.planner.proofs.HighCosts.{high_found, high_further, high_end}
 use Rattle.planner.proofs.pricing.is_high.Goals as goal
 
 -- src/pricing.rt:60:13
-pub returns-then-is-past : goal.returns-then-is-past
-returns-then-is-past g c =
-    sym (high_found (g.V.Rowed.row c.args.cost) c.loop-i.i (sym (c.if-is-past.ensures ∙ ap past_place c.place.ensures))) ∙ c.loop-i.invariant
+pub returns-then-is_past : goal.returns-then-is_past
+returns-then-is_past g c =
+    sym (high_found (g.V.Rowed.row c.args.cost) c.loop-i.i (sym (c.if-is_past.ensures ∙ ap past_place c.place.ensures))) ∙ c.loop-i.invariant
 
 -- src/pricing.rt:58:5
 pub loop-i-preserved : goal.loop-i-preserved
 loop-i-preserved g c =
-    high_further (g.V.Rowed.row c.args.cost) c.loop-i.i (sym (c.if-is-past.ensures ∙ ap past_place c.place.ensures)) ∙ c.loop-i.invariant
+    high_further (g.V.Rowed.row c.args.cost) c.loop-i.i (sym (c.if-is_past.ensures ∙ ap past_place c.place.ensures)) ∙ c.loop-i.invariant
 
 -- src/pricing.rt:54:1
 pub returns : goal.returns
