@@ -5,7 +5,7 @@ use Rattle.tape_report.proofs.lines.page_of_calls.Goals as goal
 
 pub returns : goal.returns
 returns g c room =
-    let ran = c.run-calls.ensures in
+    let ran = c.run_calls.ensures in
     let row = g.T.Value.Rowed.row in
     let added = all_added row _ ran.tells.heard _ ran.tells.chain room in
     record {
