@@ -1,5 +1,5 @@
 -- The order of rows and what `cmp` and `==` answer at their places, place by place: each says the other. Assumes nothing.
-use Rattle.std.proofs.Common.{◌≡◌, Bool, true, false, List, ◌∷◌, ℤ, ◌<ℤ◌, Decides, Ordering, Less, Equal, Greater, sym, refl, ap, ◌∙◌, arith}
+use Rattle.std.proofs.Common.{◌≡◌, true, false, List, ◌∷◌, ℤ, ◌<ℤ◌, Decides, Ordering, Less, Equal, Greater, sym, refl, ap, ◌∙◌, arith}
 use borrow.Author.Differences.{ints}
 use Rattle.std.specs.Ordering.{MatchOrdering, ordering_reverse, int_cmp, int_eq, is_lt, is_eq}
 use Rattle.std.specs.Cmp.{int_cmp_total}
@@ -37,8 +37,8 @@ cmp_from_standing xs ys Equal h = sym (ap (slice_cmp int_cmp xs) (sym h) ∙ tie
 cmp_from_standing xs ys Greater h = sym (turned xs ys ∙ ap ordering_reverse (cmp_less ys xs h))
 
 -- `==` tells whether two rows are the same
-pub eq_decides : (xs ys : List ℤ) (b : Bool) → b ≡ pointwise int_eq xs ys → Decides b (xs ≡ ys)
-eq_decides xs ys b e = rw e (signed_items xs ys)
+pub eq_decides : (xs ys : List ℤ) → Decides (pointwise int_eq xs ys) (xs ≡ ys)
+eq_decides = signed_items
 
 by_answer : (xs ys : List ℤ) (o : Ordering) → slice_cmp int_cmp xs ys ≡ o → Standing xs ys o
 by_answer xs ys Less e = sym (lt_is_below xs ys) ∙ ap is_lt e
@@ -46,5 +46,5 @@ by_answer xs ys Equal e = (signed_items xs ys).0 (lists_ties int_cmp (λ _ _. re
 by_answer xs ys Greater e = sym (lt_is_below ys xs) ∙ ap is_lt (turned ys xs ∙ ap ordering_reverse e)
 
 -- the answer of `cmp` says how two rows stand
-pub standing_from_cmp : (xs ys : List ℤ) (o : Ordering) → o ≡ slice_cmp int_cmp xs ys → Standing xs ys o
-standing_from_cmp xs ys o e = by_answer xs ys o (sym e)
+pub standing_from_cmp : (xs ys : List ℤ) → Standing xs ys (slice_cmp int_cmp xs ys)
+standing_from_cmp xs ys = by_answer xs ys (slice_cmp int_cmp xs ys) refl

@@ -1,12 +1,14 @@
 -- What holds of all rows. Assumes nothing.
-use Rattle.std.specs.Prelude.{◌≡◌, ℕ, ◌+◌, ◌<◌, ◌≤◌, List, length, get_or, ℤ, pos, ◌+ℤ◌, ◌*ℤ◌, neg_ℤ, ◌<ℤ◌, Decides, int_lt, slice_index_or}
-use Rattle.rows.specs.Places.{added, opposite, scaled, most, held, kept, Near, Small, below, weight, wide}
+use Rattle.std.specs.Prelude.{◌≡◌, ℕ, ◌+◌, ◌<◌, ◌≤◌, List, length, ℤ, pos, ◌+ℤ◌, ◌*ℤ◌, neg_ℤ, ◌<ℤ◌, Decides, int_lt, slice_index_or}
+use Rattle.std.specs.Ordering.{int_cmp, int_eq}
+use Rattle.std.specs.Cmp.Lexicographic.{slice_cmp, pointwise}
+use Rattle.rows.specs.Places.{added, opposite, scaled, most, held, kept, Near, Small, below, Standing, weight, wide}
 
 -- The place k is the first where two rows differ, and there the first row has less.
 pub record LessFirstAt (xs ys : List ℤ) (k : ℕ) : Type 0 where
   pub within : k < length xs
   pub alike : (i : ℕ) → i < k → slice_index_or xs i (pos 0) ≡ slice_index_or ys i (pos 0)
-  pub less : get_or xs k (pos 0) <ℤ slice_index_or ys k (pos 0)
+  pub less : slice_index_or xs k (pos 0) <ℤ slice_index_or ys k (pos 0)
 
 -- Of two rows of one length, one is below the other exactly when it has less at the first place where they differ.
 abbrev pub FirstDifferenceDecides : Type 0
@@ -42,6 +44,14 @@ BoundHolds = (z : ℤ) → HeldRight z
 abbrev pub NearSumsExact : Type 0
 NearSumsExact = (p q : ℕ) (xs ys : List ℤ) → Small p xs → Small q ys → p + q ≤ most → kept (added xs ys) ≡ added xs ys
 
+-- What `cmp` answers, place by place, says how two rows stand.
+abbrev pub CmpTellsStanding : Type 0
+CmpTellsStanding = (xs ys : List ℤ) → Standing xs ys (slice_cmp int_cmp xs ys)
+
+-- What `==` answers, place by place, says whether two rows are the same.
+abbrev pub EqTellsSame : Type 0
+EqTellsSame = (xs ys : List ℤ) → Decides (pointwise int_eq xs ys) (xs ≡ ys)
+
 -- the laws of rows
 pub record RowLaws : Type 0 where
   pub decides : FirstDifferenceDecides
@@ -51,3 +61,5 @@ pub record RowLaws : Type 0 where
   pub scales : MultipleWeighsMultiple
   pub holds : BoundHolds
   pub exact : NearSumsExact
+  pub stands : CmpTellsStanding
+  pub same : EqTellsSame

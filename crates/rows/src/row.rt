@@ -27,7 +27,7 @@ impl<const N: usize> Row<N> {
     /// The row of these numbers. A number past the bound stays at the bound. The laws hold of all
     /// rows: the first place that differs decides their order, which is that of one whole number for
     /// each, the row's weight; the weight adds up, turns and multiplies as the row does; and sums of rows
-    /// that lie near enough are exact.
+    /// that lie near enough are exact. `cmp` and `==` tell what that order and the places say.
     pub fn new(places: [i64; N]) -> Row<N>
         ensures value { result.places ≡ kept places.entry }
         ensures laws { RowLaws }
