@@ -1,4 +1,4 @@
-use Rattle.std.proofs.Common.{◌≡◌, ◌++◌, sym, refl, ap, ◌∙◌, subst}
+use Rattle.std.proofs.Common.{◌++◌, ap, ◌∙◌}
 use Rattle.tape_report.specs.Texts.{heard_texts}
 use Rattle.tape_report.proofs.Hearing.{all_added, right_with}
 use Rattle.tape_report.proofs.lines.page_of_calls.Goals as goal
