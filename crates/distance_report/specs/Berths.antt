@@ -1,5 +1,5 @@
 -- The berths that edges name. Assumes nothing.
-use Rattle.std.specs.Prelude.{ℕ, zero, suc, ◌+◌, Bool, cond, ◌||◌, List, [], ◌∷◌, ◌++◌, ◌==◌}
+use Rattle.std.specs.Prelude.{ℕ, zero, suc, Bool, cond, ◌||◌, List, [], ◌∷◌, ◌++◌, ◌==◌}
 use Rattle.lists.specs.Some.{some_pass}
 use Rattle.walks.specs.declared.edge.Edge.{Edge}
 

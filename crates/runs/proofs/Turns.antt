@@ -1,21 +1,19 @@
 -- One call more of a run.
-use Rattle.std.proofs.Common.{◌≡◌, ℕ, ◌+◌, ◌-◌, ◌<◌, ◌≤◌, ◌⊎◌, List, [], ◌∷◌, ◌++◌, length, get_or, take, ℤ, Option, Result, sym, refl, ap, ◌∙◌, subst, inl, inr, ⊎_elim, arith}
+use Rattle.std.proofs.Common.{◌≡◌, ℕ, ◌+◌, ◌-◌, ◌<◌, List, [], ◌∷◌, ◌++◌, length, get_or, take, ℤ, Result, sym, refl, ap, ◌∙◌, subst, ⊎_elim, arith}
 use Rattle.std.specs.List.{FoldsTo}
 use Rattle.std.proofs.lemmas.List.{length-append, get_or_append_left, get_or-append_right}
 use Rattle.std.proofs.lemmas.Bool.{cases_lt}
 use Rattle.faults.specs.declared.fault.Fault.{Fault}
 use Rattle.trips.specs.declared.trip.Trip.{Trip}
-use Rattle.rules.specs.declared.rule.YardCents.{YardCents}
 use Rattle.board.specs.Standing.{AllServed}
 use Rattle.plans.specs.Terms.{Terms}
-use Rattle.plans.specs.Answers.{Tables, Answers}
+use Rattle.plans.specs.Answers.{Tables}
 use Rattle.plans.proofs.Exactly.{exact, never_unserved}
 use Rattle.calls.specs.declared.call.Call.{Call}
 use Rattle.calls.specs.declared.call.Call.TheVariants.{Add, Withdraw, SetLimit, Plan}
-use Rattle.calls.specs.declared.answer.Answer.{Answer}
 use Rattle.calls.specs.Standing.{standing, limit_after, no_call}
-use Rattle.runs.specs.Heard.{Heard, done}
-use Rattle.runs.specs.Right.{Found, RightDone, RightPlan, Right}
+use Rattle.runs.specs.Heard.{Heard}
+use Rattle.runs.specs.Right.{RightDone, RightPlan, Right}
 use Rattle.runs.specs.Step.{Leaves, Plans, Step}
 use Rattle.runs.specs.Ran.{RightUpto, Told}
 

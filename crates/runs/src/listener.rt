@@ -12,5 +12,5 @@ pub trait Listener<V> {
 
     /// Hears an answer.
     fn hear(&mut self, answer: &Answer<V>, trips: &[Trip], successors: &[u16], prices: &[V])
-        ensures { told self.old (record { answer = answer.entry.now; trips = trips.now; successors = successors.now; prices = prices.now }) self.new };
+        ensures { told self.old (record { answer = answer.now; trips = trips.now; successors = successors.now; prices = prices.now }) self.new };
 }

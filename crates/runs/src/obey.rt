@@ -53,9 +53,9 @@ pub(crate) fn obey<R: Rule, T: Tariff>(
     ensures step { Step T.Value.Rowed.row
         (record { yard = R.Rule.yard rule.now; link = R.Rule.link rule.now; places = T.Value.Rowed.count; opens = T.Tariff.opens tariff.now; links = T.Tariff.links tariff.now; homes = T.Tariff.homes tariff.now; fee = fee })
         (trips_of board.old) (limit_of board.old) call
-        (record { successors = successors.entry.now; prices = prices.old; numbers = numbers.old; values = values.old })
+        (record { successors = successors.old; prices = prices.old; numbers = numbers.old; values = values.old })
         result
-        (record { successors = successors.exit.now; prices = prices.new; numbers = numbers.new; values = values.new }) }
+        (record { successors = successors.new; prices = prices.new; numbers = numbers.new; values = values.new }) }
 {
     match call {
         Call::Add(trip) => altered(board.add(rule, trip)),

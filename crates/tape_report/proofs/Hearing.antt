@@ -1,5 +1,5 @@
 -- What a page holds after all that it heard.
-use Rattle.std.proofs.Common.{◌≡◌, ℕ, false, List, [], ◌∷◌, ◌++◌, length, ℤ, string_bytes, sym, refl, ap, ◌∙◌, subst, append_assoc, append-nil}
+use Rattle.std.proofs.Common.{◌≡◌, ℕ, false, List, [], ◌∷◌, ◌++◌, length, ℤ, string_bytes, sym, ap, ◌∙◌, subst, append_assoc, append-nil}
 use Rattle.std.specs.List.{FoldsTo}
 use Rattle.calls.specs.declared.call.Call.{Call}
 use Rattle.plans.specs.Terms.{Terms}

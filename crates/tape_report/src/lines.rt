@@ -11,7 +11,6 @@ use rows::Rowed;
 use rules::Rule;
 use runs::run_calls;
 use std::alloc::{AllocError, Global};
-use std::fmt;
 use tape_calls::{TapeCalls, read_tape};
 use tariffs::Tariff;
 
@@ -95,10 +94,8 @@ fn with_fault(page: Page, fault: Option<Fault>) -> Result<String, AllocError>
     let Some(fault) = fault else {
         return Ok(text);
     };
-    match writeln!(text, "{fault}") {
-        Ok(()) => Ok(text),
-        Err(_) => Err(AllocError),
-    }
+    writeln!(text, "{fault}")?;
+    Ok(text)
 }
 
 /// The lines of the calls that a tape holds, done on a new board: `ok` for a call that altered the board, a plan's duties
@@ -110,8 +107,8 @@ pub fn tape_lines<R: Rule, T: Tariff>(
     fee: u32,
     tape: &[u8],
 ) -> Result<String, AllocError>
-    ensures { IfOk result (λ text. TapePrints Value-as-Rowed.row
-        (record { yard = R.Rule.yard rule.now; link = R.Rule.link rule.now; places = Value-as-Rowed.count; opens = T.Tariff.opens tariff.now; links = T.Tariff.links tariff.now; homes = T.Tariff.homes tariff.now; fee = fee })
+    ensures { IfOk result (λ text. TapePrints T.Value.Rowed.row
+        (record { yard = R.Rule.yard rule.now; link = R.Rule.link rule.now; places = T.Value.Rowed.count; opens = T.Tariff.opens tariff.now; links = T.Tariff.links tariff.now; homes = T.Tariff.homes tariff.now; fee = fee })
         tape.now (string_bytes text)) }
 {
     let TapeCalls { calls, fault } = read_tape(heap, tape)?;

@@ -7,7 +7,7 @@ use plan_report::PlanLines;
 use plans::Plan;
 use rows::Rowed;
 use runs::Listener;
-use std::fmt;
+use std::alloc::AllocError;
 use trips::Trip;
 
 /// Text to which each answer's lines are added as it is heard.
@@ -34,7 +34,7 @@ fn write_plan<V: Rowed>(
     plan: &Plan<V>,
     trips: &[Trip],
     successors: &[u16],
-) -> fmt::Result
+) -> Result<(), AllocError>
     ensures { OnOk result (string_bytes text.new ≡ string_bytes text.old ++ answer_text V.Rowed.row (Answer.Planned plan.now) trips.now successors.now) }
 {
     let planned = front(successors, trips.len());
@@ -48,7 +48,7 @@ fn write_answer<V: Rowed>(
     answer: &Answer<V>,
     trips: &[Trip],
     successors: &[u16],
-) -> fmt::Result
+) -> Result<(), AllocError>
     ensures { OnOk result (string_bytes text.new ≡ string_bytes text.old ++ answer_text V.Rowed.row answer.now trips.now successors.now) }
 {
     match answer {

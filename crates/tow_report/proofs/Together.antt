@@ -1,5 +1,5 @@
 -- The rule, the cap and the tariff, put together, give the tow office's terms.
-use Rattle.std.proofs.Common.{◌≡◌, ℕ, ◌+◌, ◌⊎◌, List, [], ◌∷◌, ℤ, pos, Some, sym, refl, ap, ◌∙◌, subst, inr}
+use Rattle.std.proofs.Common.{◌≡◌, ℕ, ◌+◌, List, [], ◌∷◌, pos, Some, subst, inr}
 use Rattle.rules.specs.Caps.{capped_link}
 use Rattle.rows.specs.declared.row.Row.{Row}
 use Rattle.tariffs.specs.Charges.{capped}
@@ -9,7 +9,7 @@ use Rattle.tow_rule.specs.Listed.{listed_link}
 use Rattle.tow_inputs.specs.Rules.{Sound}
 use Rattle.plans.specs.Terms.{Terms}
 use Rattle.tape_report.specs.Prints.{TapePrints}
-use Rattle.tow_report.specs.Tows.{tow_terms, TapeLines, TowPrints}
+use Rattle.tow_report.specs.Tows.{TowPrints}
 
 -- the terms of a crew cap over a tow rule, in cents
 abbrev together : ℕ → ℕ → ℕ → List Link → ℕ → Terms

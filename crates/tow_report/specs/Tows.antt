@@ -1,5 +1,5 @@
 -- What the program tow prints. Assumes nothing.
-use Rattle.std.specs.Prelude.{◌≡◌, ℕ, ◌+◌, ◌⊎◌, List, [], ◌∷◌, ℤ, pos, Some}
+use Rattle.std.specs.Prelude.{◌≡◌, ℕ, ◌+◌, ◌⊎◌, List, [], ◌∷◌, pos, Some}
 use Rattle.faults.specs.declared.fault.Fault.{Fault}
 use Rattle.rules.specs.Caps.{capped_link}
 use Rattle.rows.specs.declared.row.Row.{Row}

@@ -59,8 +59,10 @@ fn refuses_link(rt: &impl Abort, heap: Global, link: Link) -> Result<(), Fail> {
 
 /// Sees that the rule is made from a link and sums.
 fn takes(rt: &impl Abort, heap: Global, link: Link, out: u32, home: u32) {
+    let links = [link];
     let mut rule = TowRule::new(heap);
-    assert!(rt; rule.remake(&[link], out, home).is_ok());
+    let made = rule.remake(&links, out, home).is_ok();
+    assert!(rt; made);
 }
 
 #[test]

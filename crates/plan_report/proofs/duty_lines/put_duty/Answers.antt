@@ -3,4 +3,4 @@ use Rattle.printing.proofs.Writing.{three}
 use Rattle.plan_report.proofs.duty_lines.put_duty.Goals as goal
 
 pub returns : goal.returns
-returns g c = three g.W.Write.write_str_gives _ _ _ _ _ _ _ _ _ c.in-ok-write.ensures.writes c.in-ok-put-trips.ensures c.writeln.ensures.writes (simp append_assoc)
+returns g c = three g.W.Write.write_str_gives _ _ _ _ _ _ _ _ _ c.in_ok-write.ensures.writes c.in_ok-put_trips.ensures c.writeln.ensures.writes (simp append_assoc)

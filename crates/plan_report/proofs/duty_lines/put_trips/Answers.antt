@@ -8,5 +8,5 @@ pub loop-position-preserved : goal.loop-position-preserved
 loop-position-preserved g c =
     let ts = c.args.trips.now in
     let rest = trips_text ts (trips_left c.next.new.self) in
-    more g.W.Write.write_str_gives _ _ _ _ _ _ _ c.loop-position.invariant c.in-ok-write.ensures.writes
-    (ap (trips_text ts) c.in-Some.ensures ∙ ap (λ n. codes " " ++ (decimal n ++ rest)) (sym c.number-at-number.ensures))
+    more g.W.Write.write_str_gives _ _ _ _ _ _ _ c.loop-position.invariant c.in_ok-write.ensures.writes
+    (ap (trips_text ts) c.in-Some.ensures ∙ ap (λ n. codes " " ++ (decimal n ++ rest)) (sym c.number_at-number.ensures))

@@ -1,4 +1,4 @@
-use Rattle.std.proofs.Common.{◌≡◌, ℕ, length, take}
+use Rattle.std.proofs.Common.{◌≡◌, length, take}
 use Rattle.board.specs.Boards.{limit_of, trips_of}
 use Rattle.board.specs.Standing.{AllServed}
 use Rattle.calls.specs.Standing.{standing, limit_after}

@@ -1,11 +1,11 @@
-use Rattle.std.proofs.Common.{◌≡◌, ◌++◌, sym, refl, ap, ◌∙◌, subst}
+use Rattle.std.proofs.Common.{◌++◌, ap, ◌∙◌}
 use Rattle.tape_report.specs.Texts.{heard_texts}
 use Rattle.tape_report.proofs.Hearing.{all_added, right_with}
 use Rattle.tape_report.proofs.lines.page_of_calls.Goals as goal
 
 pub returns : goal.returns
 returns g c room =
-    let ran = c.run-calls.ensures in
+    let ran = c.run_calls.ensures in
     let row = g.T.Value.Rowed.row in
     let added = all_added row _ ran.tells.heard _ ran.tells.chain room in
     record {
