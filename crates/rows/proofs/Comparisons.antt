@@ -36,6 +36,10 @@ cmp_from_standing xs ys Less h = sym (cmp_less xs ys h)
 cmp_from_standing xs ys Equal h = sym (ap (slice_cmp int_cmp xs) (sym h) ∙ tied_itself (lists_total int_cmp_total) xs)
 cmp_from_standing xs ys Greater h = sym (turned xs ys ∙ ap ordering_reverse (cmp_less ys xs h))
 
+-- and so tells what `==` answers
+pub eq_from_standing : (xs ys : List ℤ) (o : Ordering) → Standing xs ys o → is_eq o ≡ pointwise int_eq xs ys
+eq_from_standing xs ys o h = ap is_eq (cmp_from_standing xs ys o h) ∙ sym (lists_ties int_cmp (λ _ _. refl) xs ys)
+
 -- `==` tells whether two rows are the same
 pub eq_decides : (xs ys : List ℤ) → Decides (pointwise int_eq xs ys) (xs ≡ ys)
 eq_decides = signed_items

@@ -2,8 +2,8 @@
 ghost use Rattle.std.specs.Prelude.{◌≡◌, Decides};
 ghost use Rattle.std.proofs.Common.{refl, Some};
 ghost use Rattle.std.specs.Cmp as Keys;
-ghost use Rattle.std.specs.Cmp.Lexicographic.{slice_cmp, lists_total, lists_ties};
-ghost use Rattle.std.specs.Ordering.{int_cmp, is_eq};
+ghost use Rattle.std.specs.Cmp.Lexicographic.{pointwise, slice_cmp, lists_total, lists_ties};
+ghost use Rattle.std.specs.Ordering.{int_cmp, int_eq, is_eq};
 ghost use Rattle.std.specs.Option.{IsSomeAnd};
 ghost use Rattle.rows.specs.Places.{Standing};
 
@@ -16,6 +16,7 @@ pub(crate) fn compare<const N: usize>(a: &Row<N>, b: &Row<N>) -> Ordering
     ensures stands { Standing a.now.places b.now.places result }
     ensures same { Decides (is_eq result) (a.now.places ≡ b.now.places) }
     ensures value { result ≡ slice_cmp int_cmp a.now.places b.now.places }
+    ensures told { is_eq result ≡ pointwise int_eq a.now.places b.now.places }
 {
     if precedes(&a.places, &b.places) {
         Ordering::Less
