@@ -201,9 +201,9 @@ cover_from_table N t tab =
     let ds = built 0 t in
     let len : 0 + length t ≡ n = omega (arith, tab.long) in
     let rs = rows N t tab 0 t len (λ i. let z : i ≡ 0 + i = omega arith in ap (after t) z) in
-    let pos-is : (k : ℕ) → times k (positions ds) ≡ times k (from 0 t) = λ k. positions_built N t k 0 t len rs in
+    let pos_is : (k : ℕ) → times k (positions ds) ≡ times k (from 0 t) = λ k. positions_built N t k 0 t len rs in
     let from_is : (k : ℕ) → times k (from 0 t) ≡ times k (below n) = λ k. let e = times_from k 0 t in let f = times_below k n in grind (arith, nat_tests) in
-    let ends : (k : ℕ) → times k (positions ds) ≡ cond (ltb k n) 1 0 = λ k. pos-is k ∙ from_is k ∙ times_below k n in
+    let ends : (k : ℕ) → times k (positions ds) ≡ cond (ltb k n) 1 0 = λ k. pos_is k ∙ from_is k ∙ times_below k n in
     let duties = duties_built N t 0 t rs in
     let within : AllByRecursion (λ k. k < n) (positions ds) = all_from_times (λ k. k < n) (positions ds) (λ k l. let e = ends k in grind (arith, nat_tests)) in
     let once : (k : ℕ) → times k (positions ds) ≤ 1 = λ k. let e = ends k in grind (arith, nat_tests) in

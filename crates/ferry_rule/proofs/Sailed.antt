@@ -44,12 +44,12 @@ module _ (es : List Edge) (t : List (Option ℕ)) (closed : ∥ TableOf es t ∥
     link_of (Some m) e =
         cond_both (gap_lies_within (least + m) (most + m) a b) _ _ (LinkSailed es least most factor a b)
         (λ yes. (m, there a.end b.start m e, within_lies least most m a b yes, refl))
-        (λ not-Within d dist lies.
+        (λ outside d dist lies.
         only a.end b.start d dist (Some m) e
         (λ same.
         let is : d ≡ m = cc in
         let w = subst (λ k. Lies least most k a b) is lies in
-        let z : true ≡ false = sym (lies_within least most m a b w) ∙ not-Within in
+        let z : true ≡ false = sym (lies_within least most m a b w) ∙ outside in
         let y : ◌≡◌ {A = ℕ} 0 1 = cc in
         omega arith))
 
@@ -58,8 +58,8 @@ module _ (es : List Edge) (t : List (Option ℕ)) (closed : ∥ TableOf es t ∥
 
   module _ (factor : ℕ) (trip : Trip) where
     yard_of : (o p : Option ℕ) → length_between t 0 trip.start ≡ o → length_between t trip.end 0 ≡ p → YardSailed es factor trip (yard_by factor o p)
-    yard_of None p e f = λ out home there-is back. only 0 trip.start out there-is None e (none_some out)
-    yard_of (Some out) None e f = λ o home there-is back. only trip.end 0 home back None f (none_some home)
+    yard_of None p e f = λ out home there_is back. only 0 trip.start out there_is None e (none_some out)
+    yard_of (Some out) None e f = λ o home there_is back. only trip.end 0 home back None f (none_some home)
     yard_of (Some out) (Some home) e f = (out, home, there 0 trip.start out e, there trip.end 0 home f, refl, refl)
 
     pub yard_sailed : (r : Option YardCents) → r ≡ ferry_yard (length_between t) factor trip → YardSailed es factor trip r

@@ -7,17 +7,17 @@ use Rattle.matchings.specs.Flips.{Changed, Flipping, Flipped}
 use Rattle.matchings.proofs.Counts.{free_same, free_less, other}
 
 module _ (n : ℕ) (small : n < 65535) (s q : List ℕ) (m : Matching n s q) where
-  in-s : (k : ℕ) → k < n → k < length s
-  in-s k l = let e = m.next_long in omega arith
+  in_s : (k : ℕ) → k < n → k < length s
+  in_s k l = let e = m.next_long in omega arith
 
-  in-q : (k : ℕ) → k < n → k < length q
-  in-q k l = let e = m.prior_long in omega arith
+  in_q : (k : ℕ) → k < n → k < length q
+  in_q k l = let e = m.prior_long in omega arith
 
   -- a tail without a head takes a head without a tail
   attach : (i j : ℕ) → i < n → j < n → at s i ≡ 65535 → at q j ≡ 65535 → Matching n (set s i j) (set q j i)
   attach i j li lj loose none =
-      let si : at (set s i j) i ≡ j = get_or-set_same s i j 0 (in-s i li) in
-      let qj : at (set q j i) j ≡ i = get_or-set_same q j i 0 (in-q j lj) in
+      let si : at (set s i j) i ≡ j = get_or-set_same s i j 0 (in_s i li) in
+      let qj : at (set q j i) j ≡ i = get_or-set_same q j i 0 (in_q j lj) in
       record {
         next_long = length-set s i j ∙ m.next_long;
         prior_long = length-set q j i ∙ m.prior_long;
@@ -50,10 +50,10 @@ module _ (n : ℕ) (small : n < 65535) (s q : List ℕ) (m : Matching n s q) whe
       let lp : p < n = let z = pj.0 in omega arith in
       let sp : at s p ≡ j = ap (at s) (sym ep) ∙ pj.1 in
       let ip : i ≢ p = λ z. let z' : at s i ≡ j = cc in omega arith in
-      let inp : p < length (set s i j) = simp length-set (in-s p lp) in
+      let inp : p < length (set s i j) = simp length-set (in_s p lp) in
       let s2p : at (set (set s i j) p 65535) p ≡ 65535 = get_or-set_same (set s i j) p 65535 0 inp in
-      let s2i : at (set (set s i j) p 65535) i ≡ j = other (set s i j) p i 65535 ip ∙ get_or-set_same s i j 0 (in-s i li) in
-      let qj : at (set q j i) j ≡ i = get_or-set_same q j i 0 (in-q j lj) in
+      let s2i : at (set (set s i j) p 65535) i ≡ j = other (set s i j) p i 65535 ip ∙ get_or-set_same s i j 0 (in_s i li) in
+      let qj : at (set q j i) j ≡ i = get_or-set_same q j i 0 (in_q j lj) in
       record {
         next_long = length-set (set s i j) p 65535 ∙ length-set s i j ∙ m.next_long;
         prior_long = length-set q j i ∙ m.prior_long;
@@ -84,13 +84,13 @@ module _ (n : ℕ) (small : n < 65535) (s q : List ℕ) (m : Matching n s q) whe
 module _ (n : ℕ) (small : n < 65535) (reached via s q : List ℕ) (i : ℕ) (s' q' : List ℕ) (f : Flipping n reached via s q i s' q') where
   -- what is changed where the tail i takes the head j by which it was reached
   flip_changed : (j : ℕ) → j ≡ at via i → j < n → (s'' : List ℕ) → at s'' i ≡ j → ((k : ℕ) → k ≢ i → (at s'' k ≡ 65535 → ⊥) → at s'' k ≡ at s' k) → Changed n reached via s q s'' (set q' j i)
-  flip_changed j ej lj s'' at_i at-k =
+  flip_changed j ej lj s'' at_i at_k =
       record {
         pair = λ k l nz.
             elim (cases_eq k i) [
               | inl e ↦ inr (λ z. let z' : at reached i ≡ 65535 = cc in let num = f.numbered in omega arith, cc)
               | inr ne ↦
-                  let es = at-k k ne nz in
+                  let es = at_k k ne nz in
                   elim (f.changed.pair k l (λ z. nz (es ∙ z))) [ inl e ↦ inl (es ∙ e) | inr e ↦ inr (e.0, es ∙ e.1) ]
             ];
         head = λ k l none.

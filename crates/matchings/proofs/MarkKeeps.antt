@@ -9,7 +9,7 @@ use Rattle.matchings.proofs.Counts.{other}
 
 module _ (net : Net ℤ) (n : ℕ) (small : n < 65535) (next prior reached via : List ℕ) (a b slack : List ℤ) (t i : ℕ) (m : Matching n next prior) (long : length reached ≡ n)
     (tree : Tree net n prior reached via a b t) (slacks : Slacks net n (Reached prior reached) reached via a b slack) (few : t < 65535)
-    (li : i < n) (open-i : at reached i ≡ 65535) (some : at via i ≡ 65535 → ⊥) (zero : at_z slack i ≡ pos 0) where
+    (li : i < n) (open_i : at reached i ≡ 65535) (some : at via i ≡ 65535 → ⊥) (zero : at_z slack i ≡ pos 0) where
   marked : List ℕ
   marked = set reached i t
 
@@ -29,7 +29,7 @@ module _ (net : Net ℤ) (n : ℕ) (small : n < 65535) (next prior reached via :
 
   -- the way back from a tail leads to one that was reached before
   back : (k : ℕ) → at reached (at prior (at via k)) < t → at (set reached i t) (at prior (at via k)) ≡ at reached (at prior (at via k))
-  back k l = mark_other _ (λ z. let y : at reached (at prior (at via k)) ≡ 65535 = ap (at reached) z ∙ open-i in omega arith)
+  back k l = mark_other _ (λ z. let y : at reached (at prior (at via k)) ≡ 65535 = ap (at reached) z ∙ open_i in omega arith)
 
   pub mark_tree : Tree net n prior (set reached i t) via a b (t + 1)
   mark_tree =
@@ -42,14 +42,14 @@ module _ (net : Net ℤ) (n : ℕ) (small : n < 65535) (next prior reached via :
         source = λ k l o.
             elim (cases_eq k i) [
               | inl q ↦
-                  let s = slacks.hit i li open-i some in
+                  let s = slacks.hit i li open_i some in
                   rw q (s.0, s.2 ∙ ap Some (omega (arith, ints)))
               | inr ne ↦ tree.source k l (λ z. o (mark_other k ne ∙ z))
             ];
         before = λ k l o.
             elim (cases_eq k i) [
               | inl q ↦
-                  let s = slacks.hit i li open-i some in
+                  let s = slacks.hit i li open_i some in
                   let y : at (set reached i t) i ≡ t = mark_at in
                   rw q (elim s.1 [
                     | inl e ↦ inl e

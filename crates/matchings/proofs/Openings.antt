@@ -42,12 +42,12 @@ module _ {V : Type 0} (row : V → List ℤ) (count : ℕ) (long : (v : V) → l
         }
 
     module _ (n : ℕ) (next prior : List ℕ) (a b : List V) (la : length a ≡ n) (lb : length b ≡ n) (ls : length next ≡ n) (lp : length prior ≡ n) (eh : row h ≡ replicate count (negsuc 5999999999))
-        (no-next : (k : ℕ) → k < length next → at next k ≡ 65535) (no-prior : (k : ℕ) → k < length prior → at prior k ≡ 65535) (op : Opened row net h n a b) where
+        (no_next : (k : ℕ) → k < length next → at next k ≡ 65535) (no_prior : (k : ℕ) → k < length prior → at prior k ≡ 65535) (op : Opened row net h n a b) where
       bare_next : (k : ℕ) → k < n → at next k ≡ 65535
-      bare_next k l = no-next k (omega arith)
+      bare_next k l = no_next k (omega arith)
 
       bare_prior : (k : ℕ) → k < n → at prior k ≡ 65535
-      bare_prior k l = no-prior k (omega arith)
+      bare_prior k l = no_prior k (omega arith)
 
       -- the hull price begins so low that no link costs less than its two prices
       low_enough : (i j : ℕ) (r : List ℤ) → net.link i j ≡ Some r → (weight (net.homes i) +ℤ (weight (net.opens j) +ℤ weight (row h))) ≤ℤ weight r
@@ -127,7 +127,7 @@ module _ {V : Type 0} (row : V → List ℤ) (count : ℕ) (long : (v : V) → l
           }
 
       pub opened_free : free prior ≡ n
-      opened_free = free_all prior no-prior ∙ lp
+      opened_free = free_all prior no_prior ∙ lp
 
       pub opened_low : weight (row h) ≤ℤ pos 0
       opened_low =

@@ -11,12 +11,12 @@ use Rattle.matchings.proofs.TableEntries.{weights_length, weights_set, weights_a
 
 module _ (prior reached : List ℕ) (d : ℤ) (k : ℕ) (a a' : List ℤ) (h : RaiseHeads prior reached d k a a') where
   pub head_put : (r : ℤ) → k < length a' → Reached prior reached k → r ≡ (at_z a' k +ℤ d) → RaiseHeads prior reached d (k + 1) a (set a' k r)
-  head_put r within at-k is =
+  head_put r within at_k is =
       let e = get_or-set_same a' k r (pos 0) within in
       let old = h.rest k (omega arith) in
       record {
         moved = below_more _ k (λ j l. let ne : j ≢ k = omega arith in rw (get_or-set_other a' k j r (pos 0) ne) (h.moved j l)) (λ _. rw e (rw old at is));
-        others = below_more _ k (λ j l. let ne : j ≢ k = omega arith in rw (get_or-set_other a' k j r (pos 0) ne) (h.others j l)) (λ nay. absurd (nay at-k));
+        others = below_more _ k (λ j l. let ne : j ≢ k = omega arith in rw (get_or-set_other a' k j r (pos 0) ne) (h.others j l)) (λ nay. absurd (nay at_k));
         rest = λ j l. let ne : j ≢ k = omega arith in rw (get_or-set_other a' k j r (pos 0) ne) (h.rest j (omega arith));
       }
 
@@ -72,8 +72,8 @@ module _ {V : Type 0} (row : V → List ℤ) (count : ℕ) (long : (v : V) → l
   module _ (d : V) (step : PlacesNear 40000000000000000 (row d)) (k : ℕ) where
     pub heads_put : (prior reached : List ℕ) (a a' : List V) → RaiseHeads prior reached (weight (row d)) k (weights row a) (weights row a') → TableNear row 40000000000000000 a → length a' ≡ length a → k < length a' → (x r : V) → x ≡ get_or a' k x → Reached prior reached k → row r ≡ kept (added (row x) (row d))
         → RaiseHeads prior reached (weight (row d)) (k + 1) (weights row a) (weights row (set a' k r))
-    heads_put prior reached a a' h all_Near e l x r read moved is =
-        let lx = near_as row count long near a a' k x 40000000000000000 l read (sym e) (h.rest k (omega arith)) (all_Near.all k (omega arith)) in
+    heads_put prior reached a a' h all_near e l x r read moved is =
+        let lx = near_as row count long near a a' k x 40000000000000000 l read (sym e) (h.rest k (omega arith)) (all_near.all k (omega arith)) in
         let w = plus_weight 40000000000000000 40000000000000000 (row x) (row d) (row r) (long x ∙ sym (long d)) lx step (omega arith) is in
         let here = weights_at row a' k x l read in
         let n = weights_length row a' in
@@ -83,8 +83,8 @@ module _ {V : Type 0} (row : V → List ℤ) (count : ℕ) (long : (v : V) → l
     module _ (reached via : List ℕ) (b b' s s' : List V) (h : RaiseTails reached via (weight (row d)) k (weights row b) (weights row b') (weights row s) (weights row s')) where
       pub tails_put : TableNear row 40000000000000000 b → length b' ≡ length b → k < length b' → (x r : V) → x ≡ get_or b' k x → (at reached k ≡ 65535 → ⊥) → row r ≡ kept (added (row x) (opposite (row d)))
           → RaiseTails reached via (weight (row d)) (k + 1) (weights row b) (weights row (set b' k r)) (weights row s) (weights row s')
-      tails_put all_Near e l x r read nay is =
-          let lx = near_as row count long near b b' k x 40000000000000000 l read (sym e) (h.rest k (omega arith)).0 (all_Near.all k (omega arith)) in
+      tails_put all_near e l x r read nay is =
+          let lx = near_as row count long near b b' k x 40000000000000000 l read (sym e) (h.rest k (omega arith)).0 (all_near.all k (omega arith)) in
           let w = minus_weight 40000000000000000 40000000000000000 (row x) (row d) (row r) (long x ∙ sym (long d)) lx step (omega arith) is in
           let here = weights_at row b' k x l read in
           let n = weights_length row b' in
@@ -93,8 +93,8 @@ module _ {V : Type 0} (row : V → List ℤ) (count : ℕ) (long : (v : V) → l
 
       pub slacks_put : SlacksNear row 40000000000000000 reached via s → length s' ≡ length s → k < length s' → (x r : V) → x ≡ get_or s' k x → at reached k ≡ 65535 → (at via k ≡ 65535 → ⊥) → row r ≡ kept (added (row x) (opposite (row d)))
           → RaiseTails reached via (weight (row d)) (k + 1) (weights row b) (weights row b') (weights row s) (weights row (set s' k r))
-      slacks_put all_Near e l x r read yea nay is =
-          let lx = near_as row count long near s s' k x 40000000000000000 l read (sym e) (h.rest k (omega arith)).1 (all_Near.all k (omega arith) yea nay) in
+      slacks_put all_near e l x r read yea nay is =
+          let lx = near_as row count long near s s' k x 40000000000000000 l read (sym e) (h.rest k (omega arith)).1 (all_near.all k (omega arith) yea nay) in
           let w = minus_weight 40000000000000000 40000000000000000 (row x) (row d) (row r) (long x ∙ sym (long d)) lx step (omega arith) is in
           let here = weights_at row s' k x l read in
           let n = weights_length row s' in

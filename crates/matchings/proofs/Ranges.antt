@@ -67,14 +67,14 @@ module _ (n : ℕ) (prior reached : List ℕ) (a b a' b' : List ℤ) (h d h' : �
       }
 
 module _ (n : ℕ) (few : n ≤ 4000) (next prior reached : List ℕ) (a b : List ℤ) (h : ℤ) (t : ℕ) (lt : t < n) (x : Spread n prior reached a b h t)
-    (i f : ℕ) (li : i < n) (lf : f < n) (open-i : at reached i ≡ 65535) (rf : Reached prior reached f) (v : ℤ) (sv : Near 2000000000 v) (ev : v ≡ (at_z b i +ℤ at_z a f)) where
+    (i f : ℕ) (li : i < n) (lf : f < n) (open_i : at reached i ≡ 65535) (rf : Reached prior reached f) (v : ℤ) (sv : Near 2000000000 v) (ev : v ≡ (at_z b i +ℤ at_z a f)) where
   -- the price of leaving the tail that is reached now
   range_new : Near ((2 * t + 2) * 2000000000) (at_z b i +ℤ h)
   range_new = let z = x.head_in f lf rf in (omega (arith, ints), omega (arith, ints))
 
   -- the hull price, by the link that is met
   pub range_hull : Near 48018000000000 h
-  range_hull = let z = x.head_in f lf rf in let y = x.tail_out i li open-i in (omega (arith, ints), omega (arith, ints))
+  range_hull = let z = x.head_in f lf rf in let y = x.tail_out i li open_i in (omega (arith, ints), omega (arith, ints))
 
   module _ (old : (j : ℕ) → j < n → Reached prior (set reached i t) j → Reached prior reached j ⊎ (j ≡ at next i)) (still : (j : ℕ) → j < n → Reached prior reached j → Reached prior (set reached i t) j)
       (was : (k : ℕ) → at (set reached i t) k ≡ 65535 → at reached k ≡ 65535) (oth : (k : ℕ) → k ≢ i → at (set reached i t) k ≡ at reached k) where

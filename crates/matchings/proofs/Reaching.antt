@@ -21,7 +21,7 @@ module _ (net : Net ℤ) (n : ℕ) (few : n ≤ 4000) (next prior reached via : 
   lower : t < 65535
   lower = let c = searching.count in omega arith
 
-  module _ (d h' : ℤ) (a' b' slack' : List ℤ) (up : pos 0 ≤ℤ at_z slack i) (is : d ≡ at_z slack i) (at-h : h' ≡ (h +ℤ d))
+  module _ (d h' : ℤ) (a' b' slack' : List ℤ) (up : pos 0 ≤ℤ at_z slack i) (is : d ≡ at_z slack i) (at_h : h' ≡ (h +ℤ d))
       (heads : RaiseHeads prior reached d (length reached) a a') (tails : RaiseTails reached via d (length reached) b b' slack slack') where
     heads_n : RaiseHeads prior reached d n a a'
     heads_n = subst (λ x. RaiseHeads prior reached d x a a') searching.reached_long heads
@@ -32,17 +32,17 @@ module _ (net : Net ℤ) (n : ℕ) (few : n ≤ 4000) (next prior reached via : 
     -- the raise by the least slack
     pub raised : Raised net n next prior reached via a' b' slack' h' t i
     raised =
-        let pos-d : pos 0 ≤ℤ d = omega (arith, ints) in
+        let pos_d : pos 0 ≤ℤ d = omega (arith, ints) in
         let under : (k : ℕ) → k < n → at reached k ≡ 65535 → (at via k ≡ 65535 → ⊥) → d ≤ℤ at_z slack k = λ k l o f. let x = least.3 k l o f in omega (arith, ints) in
         let m = sound.matching in
         record {
           sound = record {
             matching = m;
-            feasible = rw at-h (raise_feasible net n small next prior reached via a b slack h h d t a' b' slack' m searching.tree searching.taken searching.slacks heads_n tails_n pos-d under sound.feasible);
-            tight = rw at-h (raise_tight net n small next prior reached via a b slack h h d t a' b' slack' m searching.tree searching.taken searching.slacks heads_n tails_n pos-d under sound.tight);
+            feasible = rw at_h (raise_feasible net n small next prior reached via a b slack h h d t a' b' slack' m searching.tree searching.taken searching.slacks heads_n tails_n pos_d under sound.feasible);
+            tight = rw at_h (raise_tight net n small next prior reached via a b slack h h d t a' b' slack' m searching.tree searching.taken searching.slacks heads_n tails_n pos_d under sound.tight);
           };
-          slacks = raise_slacks net n small next prior reached via a b slack h h d t a' b' slack' m searching.tree searching.taken searching.slacks heads_n tails_n pos-d under;
-          tree = raise_tree net n small next prior reached via a b slack h h d t a' b' slack' m searching.tree searching.taken searching.slacks heads_n tails_n pos-d under (let c = lower in omega arith);
+          slacks = raise_slacks net n small next prior reached via a b slack h h d t a' b' slack' m searching.tree searching.taken searching.slacks heads_n tails_n pos_d under;
+          tree = raise_tree net n small next prior reached via a b slack h h d t a' b' slack' m searching.tree searching.taken searching.slacks heads_n tails_n pos_d under (let c = lower in omega arith);
           zero = let e = tails_n.slack i least.0 least.1 least.2 in omega (arith, ints);
         }
 
@@ -80,13 +80,13 @@ module _ (net : Net ℤ) (n : ℕ) (few : n ≤ 4000) (next prior reached via : 
 pub lifted : (net : Net ℤ) (n : ℕ) → n ≤ 4000 → (next prior reached via : List ℕ) (a b slack : List ℤ) (h : ℤ) (t : ℕ) → Sound net n next prior a b h → Searching net n next prior reached via a b slack t
     → (d h' : ℤ) (a' b' slack' : List ℤ) → pos 0 ≤ℤ d → ((k : ℕ) → k < n → at reached k ≡ 65535 → (at via k ≡ 65535 → ⊥) → d ≤ℤ at_z slack k) → h' ≡ (h +ℤ d)
     → RaiseHeads prior reached d (length reached) a a' → RaiseTails reached via d (length reached) b b' slack slack' → Sound net n next prior a' b' h'
-lifted net n few next prior reached via a b slack h t sound searching d h' a' b' slack' pos-d under at-h heads tails =
+lifted net n few next prior reached via a b slack h t sound searching d h' a' b' slack' pos_d under at_h heads tails =
     let small : n < 65535 = omega arith in
     let m = sound.matching in
     let heads_n = subst (λ x. RaiseHeads prior reached d x a a') searching.reached_long heads in
     let tails_n = subst (λ x. RaiseTails reached via d x b b' slack slack') searching.reached_long tails in
     record {
       matching = m;
-      feasible = rw at-h (raise_feasible net n small next prior reached via a b slack h h d t a' b' slack' m searching.tree searching.taken searching.slacks heads_n tails_n pos-d under sound.feasible);
-      tight = rw at-h (raise_tight net n small next prior reached via a b slack h h d t a' b' slack' m searching.tree searching.taken searching.slacks heads_n tails_n pos-d under sound.tight);
+      feasible = rw at_h (raise_feasible net n small next prior reached via a b slack h h d t a' b' slack' m searching.tree searching.taken searching.slacks heads_n tails_n pos_d under sound.feasible);
+      tight = rw at_h (raise_tight net n small next prior reached via a b slack h h d t a' b' slack' m searching.tree searching.taken searching.slacks heads_n tails_n pos_d under sound.tight);
     }

@@ -8,7 +8,7 @@ use Rattle.matchings.specs.Sound.{Slacks, Tree}
 
 module _ (net : Net ℤ) (n : ℕ) (forward : (i j : ℕ) (v : ℤ) → net.link i j ≡ Some v → i < j) (R R' : ℕ → Type 0) (reached via : List ℕ) (a b slack : List ℤ) (slacks : Slacks net n R reached via a b slack)
     (j : ℕ) (lj : j < n) (slack' : List ℤ) (via' : List ℕ) (scan : Scan net j (at_z a j) b reached j slack slack' via via')
-    (old-or-j : (k : ℕ) → k < n → R' k → R k ⊎ (k ≡ j)) (still : (k : ℕ) → k < n → R k → R' k) (now-j : R' j) where
+    (old_or_j : (k : ℕ) → k < n → R' k → R k ⊎ (k ≡ j)) (still : (k : ℕ) → k < n → R k → R' k) (now_j : R' j) where
   -- the slack of a tail is as it was, or that of its link to j
   either : (i : ℕ) → at reached i ≡ 65535 → ((at_z slack' i ≡ at_z slack i) × (at via' i ≡ at via i) × (net.link i j ≡ None)) ⊎ ((v : ℤ) × (net.link i j ≡ Some v) × Scanned v (at_z b i) (at_z a j) j (at_z slack i) (at_z slack' i) (at via i) (at via' i))
   either i o =
@@ -33,7 +33,7 @@ module _ (net : Net ℤ) (n : ℕ) (forward : (i j : ℕ) (v : ℤ) → net.link
   scan_slacks =
       record {
         low = λ i k v li lk o r e.
-            elim (old-or-j k lk r) [
+            elim (old_or_j k lk r) [
               | inl r' ↦
                   let old = slacks.low i k v li lk o r' e in
                   elim (either i o) [
@@ -55,7 +55,7 @@ module _ (net : Net ℤ) (n : ℕ) (forward : (i j : ℕ) (v : ℤ) → net.link
                     | inr x ↦
                         let ef : at via' i ≡ j = x.1 in
                         let es : w.0 ≡ (at_z slack' i +ℤ (at_z b i +ℤ at_z a j)) = let q = x.0 in omega (arith, ints) in
-                        rw ef (lj, now-j, w.1 ∙ ap Some es)
+                        rw ef (lj, now_j, w.1 ∙ ap Some es)
                   ]
             ];
       }

@@ -31,9 +31,9 @@ module _ (net : Net ℤ) (j : ℕ) (a : ℤ) (b : List ℤ) (reached : List ℕ)
 
   -- a tail that takes the slack of the link
   pub scan_put : (v r : ℤ) → k < length t → k < length g → j ≢ 65535 → get_or reached k 0 ≡ 65535 → net.link k j ≡ Some v → r ≡ ((v -ℤ get_or b k (pos 0)) -ℤ a) → ((get_or g k 0 ≡ 65535) ⊎ (r ≤ℤ get_or t k (pos 0))) → Scan net j a b reached (k + 1) s (set t k r) f (set g k j)
-  scan_put v r inT inG jn o e is why =
-      let et = get_or-set_same t k r (pos 0) inT in
-      let eg = get_or-set_same g k j 0 inG in
+  scan_put v r in_t in_g jn o e is why =
+      let et = get_or-set_same t k r (pos 0) in_t in
+      let eg = get_or-set_same g k j 0 in_g in
       let old = h.rest k (omega arith) in
       record {
         done = below_more _ k
@@ -54,8 +54,8 @@ mapped_none row o q e f = ap (option_map weight) (sym e ∙ ap (option_map row) 
 module _ {V : Type 0} (row : V → List ℤ) (count : ℕ) (long : (v : V) → length (row v) ≡ count) (near : (v : V) → kept (row v) ≡ row v) where
   module _ (net : Net (List ℤ)) (bounded : Bounded count net) (j : ℕ) (a : V) (b : List V) (reached : List ℕ) (s : List V) (f : List ℕ) (k : ℕ) (t : List V) (g : List ℕ)
       (h : Scan (weighed net) j (weight (row a)) (weights row b) reached k (weights row s) (weights row t) f g)
-      (near-a : PlacesNear 40000000000000000 (row a)) (near-b : TableNear row 40000000000000000 b) (lb : k < length b) (lt : k < length t) (lg : k < length g)
-      (c x u r : V) (e : net.link k j ≡ Some (row c)) (read : x ≡ get_or b k x) (is-u : row u ≡ kept (added (row c) (opposite (row x)))) (is-r : row r ≡ kept (added (row u) (opposite (row a)))) where
+      (near_a : PlacesNear 40000000000000000 (row a)) (near_b : TableNear row 40000000000000000 b) (lb : k < length b) (lt : k < length t) (lg : k < length g)
+      (c x u r : V) (e : net.link k j ≡ Some (row c)) (read : x ≡ get_or b k x) (is_u : row u ≡ kept (added (row c) (opposite (row x)))) (is_r : row r ≡ kept (added (row u) (opposite (row a)))) where
     link_is : (weighed net).link k j ≡ Some (weight (row c))
     link_is = ap (option_map weight) e
 
@@ -64,11 +64,11 @@ module _ {V : Type 0} (row : V → List ℤ) (count : ℕ) (long : (v : V) → l
     reduced =
         let fc = bounded.link k j (row c) e in
         let lc = places_near 2000000000 (row c) fc.small in
-        let lx : PlacesNear 40000000000000000 (row x) = λ q. let n = near-b.all k lb q in let z = places_at row q b k x lb read in (omega (arith, ints), omega (arith, ints)) in
-        let wu = minus_weight 2000000000 40000000000000000 (row c) (row x) (row u) (long c ∙ sym (long x)) lc lx (omega arith) is-u in
+        let lx : PlacesNear 40000000000000000 (row x) = λ q. let n = near_b.all k lb q in let z = places_at row q b k x lb read in (omega (arith, ints), omega (arith, ints)) in
+        let wu = minus_weight 2000000000 40000000000000000 (row c) (row x) (row u) (long c ∙ sym (long x)) lc lx (omega arith) is_u in
         let eu : (q : ℕ) → place q (row c) ≡ (place q (row u) +ℤ place q (row x)) = λ q. value_sum row count long near c u x (omega (arith, ints)) q in
         let lu : PlacesNear 40000002000000000 (row u) = λ q. let z = eu q in let y = lc q in let y' = lx q in (omega (arith, ints), omega (arith, ints)) in
-        let wr = minus_weight 40000002000000000 40000000000000000 (row u) (row a) (row r) (long u ∙ sym (long a)) lu near-a (omega arith) is-r in
+        let wr = minus_weight 40000002000000000 40000000000000000 (row u) (row a) (row r) (long u ∙ sym (long a)) lu near_a (omega arith) is_r in
         let wx = weights_at row b k x lb read in
         omega (arith, ints)
 

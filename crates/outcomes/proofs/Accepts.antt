@@ -138,17 +138,17 @@ module _ {V : Type 0} (row : V → List ℤ) (count : ℕ) (long : (v : V) → l
       let ry : Row count (row y) (B k) 32012000000000 = record { long = long y; weighs = sym (weights_at row b k y lb ey); small = small_from_near 32012000000000 (row y) (near_read row 32012000000000 b k y lb ey leaving_near) } in
       subst (λ r. Row count r (price A B k) most) (sym (summed_at row a b k h la lb)) (row_more count _ _ (32012000000000 + 32012000000000) most (omega arith) (row_added count (row x) (row y) (A k) (B k) 32012000000000 32012000000000 rx ry))
 
-  module _ (prices : List (List ℤ)) (lp : length prices ≡ n) (price-row : (k : ℕ) → k < n → Row count (get_or prices k []) (price A B k) most) (total : V) (paid : Totalled row a b n total)
-      (number limit : ℕ) (by : ℤ) (is-by : by ≡ pos number) (hx whole : V) (ex : row hx ≡ kept (scaled by (row h))) (ec : row whole ≡ kept (added (row total) (opposite (row hx))))
+  module _ (prices : List (List ℤ)) (lp : length prices ≡ n) (price_row : (k : ℕ) → k < n → Row count (get_or prices k []) (price A B k) most) (total : V) (paid : Totalled row a b n total)
+      (number limit : ℕ) (by : ℤ) (is_by : by ≡ pos number) (hx whole : V) (ex : row hx ≡ kept (scaled by (row h))) (ec : row whole ≡ kept (added (row total) (opposite (row hx))))
       (fr : free prior ≡ number) (under : number ≤ limit) (limited : limit ≤ 200) (up : pos 0 ≤ℤ H) (last : (number ≡ limit) ⊎ (H ≡ pos 0)) where
     all_row : Row count (prices_of count prices (upto n)) (sum_over wholes (price A B) (upto n)) (n * most)
     all_row = subst (λ k. Row count (prices_of count prices (upto n)) (sum_over wholes (price A B) (upto n)) (k * most)) (length_upto n)
-        (prices_row count n prices (price A B) most price-row (upto n) (upto_within n n (omega arith)))
+        (prices_row count n prices (price A B) most price_row (upto n) (upto_within n n (omega arith)))
 
     x_row : Row count (row hx) (H *ℤ pos number) 16006000000000000
     x_row =
         let s = row_more count (scaled (pos number) (row h)) (H *ℤ pos number) (number * 16006000000000) 16006000000000000 (omega arith) (row_scaled count (row h) H 16006000000000 (pos number) h_row) in
-        let e : row hx ≡ scaled (pos number) (row h) = ex ∙ ap (λ z. kept (scaled z (row h))) is-by ∙ kept_same (scaled (pos number) (row h)) (small_weaker 16006000000000000 most (omega arith) (scaled (pos number) (row h)) s.small) in
+        let e : row hx ≡ scaled (pos number) (row h) = ex ∙ ap (λ z. kept (scaled z (row h))) is_by ∙ kept_same (scaled (pos number) (row h)) (small_weaker 16006000000000000 most (omega arith) (scaled (pos number) (row h)) s.small) in
         subst (λ r. Row count r (H *ℤ pos number) 16006000000000000) (sym e) s
 
     cost_weighs : weight (row whole) ≡ sum_over wholes (price A B) (upto n) -ℤ (H *ℤ pos number)
@@ -202,7 +202,7 @@ module _ {V : Type 0} (row : V → List ℤ) (count : ℕ) (long : (v : V) → l
         let fd = few_duties net es s.duties in
         let le : length es ≤ 200 = let z = fq.0 in omega arith in
         let sz = size_less (length es) limit 200 le limited in
-        let mr = prices_row count n prices (price A B) most price-row (missing n (positions es)) (missing_within n (positions es)) in
+        let mr = prices_row count n prices (price A B) most price_row (missing n (positions es)) (missing_within n (positions es)) in
         let hr = row_more count _ _ (size (pos (length es) -ℤ pos limit) * 16006000000000) (200 * 16006000000000) (let z = mul-le-mul_right 16006000000000 sz in omega arith) (row_scaled count (row h) H 16006000000000 (pos (length es) -ℤ pos limit) h_row) in
         let br = row_less count _ _ _ _ (most + length (missing n (positions es)) * most) (200 * 16006000000000) (row_less count _ _ _ _ most (length (missing n (positions es)) * most) c_row mr) hr in
         let br' = row_more count _ _ ((most + length (missing n (positions es)) * most) + 200 * 16006000000000) wide (let z = fq.1 in omega arith) br in

@@ -38,7 +38,7 @@ module _ {V : Type 0} (row : V → List ℤ) (count : ℕ) (net : Net (List ℤ)
     pub ends_leaving : TableNear row 32012000000000 b
     ends_leaving = leaving_near row count long near net bd few next prior a b h stands rests
 
-    module _ (la : length a ≡ net.trips) (total hx whole : V) (paid : Totalled row a b (length a) total) (limited : limit ≤ 200) (by : ℤ) (is-by : by ≡ pos c)
+    module _ (la : length a ≡ net.trips) (total hx whole : V) (paid : Totalled row a b (length a) total) (limited : limit ≤ 200) (by : ℤ) (is_by : by ≡ pos c)
         (ex : row hx ≡ kept (scaled by (row h))) (ec : row whole ≡ kept (added (row total) (opposite (row hx)))) where
       paid_all : Totalled row a b net.trips total
       paid_all = subst (λ k. Totalled row a b k total) la paid
@@ -47,7 +47,7 @@ module _ {V : Type 0} (row : V → List ℤ) (count : ℕ) (net : Net (List ℤ)
       ends_planned prices lp priced =
           accepted row count long near net bd few next prior a b h stands rests (map row prices) (length_mapped prices ∙ lp)
           (written_row row count long near net bd few next prior a b h stands rests prices lp (subst (λ k. Priced row a b k prices) la priced))
-          total paid_all c limit by is-by hx whole ex ec s.0 s.1 limited s.2 s.3
+          total paid_all c limit by is_by hx whole ex ec s.0 s.1 limited s.2 s.3
         where
           length_mapped : (xs : List V) → length (map row xs) ≡ length xs
           length_mapped xs = length-map xs row
@@ -61,6 +61,6 @@ module _ {V : Type 0} (row : V → List ℤ) (count : ℕ) (net : Net (List ℤ)
             cost = row whole;
             hull = row h;
             accepted = accepted row count long near net bd few next prior a b h stands rests (summed row a b) (length_summed row a b (la ∙ sym stands.b_long) ∙ la)
-                (summed_row row count long near net bd few next prior a b h stands rests) total paid_all c limit by is-by hx whole ex ec s.0 s.1 limited s.2 s.3;
+                (summed_row row count long near net bd few next prior a b h stands rests) total paid_all c limit by is_by hx whole ex ec s.0 s.1 limited s.2 s.3;
             high = high;
           }

@@ -36,10 +36,10 @@ module _ {V : Type 0} (row : V → List ℤ) (terms : Terms) (ts : List Trip) (l
   abbrev n : ℕ
   n = length ts
 
-  pub in-fronts : (r : Result (Plan V) Unplanned) → Comes row terms.places (day_of terms ts) limit (take k xs) (take k us) r ys vs
+  pub in_fronts : (r : Result (Plan V) Unplanned) → Comes row terms.places (day_of terms ts) limit (take k xs) (take k us) r ys vs
       → Searched row terms ts limit (record { successors = xs; prices = us; numbers = numbers; values = values }) r
       (record { successors = put_mid 0 k xs ys; prices = put_mid 0 k us vs; numbers = numbers'; values = values' })
-  in-fronts (Ok plan) a = (
+  in_fronts (Ok plan) a = (
     record {
       accepted =
           subst (λ t. Accepted terms.places (day_of terms ts) limit t (map row (take n (put_mid 0 k us vs))) plan.duties (row plan.cost) (row plan.hull_price)) (sym (mid_take xs ys n k e ly))
@@ -49,4 +49,4 @@ module _ {V : Type 0} (row : V → List ℤ) (terms : Terms) (ts : List Trip) (l
     },
     a.1,
   )
-  in-fronts (Err why) b = (b.0, (mid_same xs ys n k e b.1, mid_same us vs n k e b.2))
+  in_fronts (Err why) b = (b.0, (mid_same xs ys n k e b.1, mid_same us vs n k e b.2))

@@ -40,11 +40,11 @@ module _ {R : Type 0} (rules : Rules R) (room : ℕ) (sheet : List ℕ) (before 
           same = ap (λ rs. read_tokens rules room [] rs later) (take_more_set table count r (omega arith) ∙ ap (λ rs. rs ++ r ∷ []) (sym front)) ∙ sym f.0 ∙ ap (λ rs. read_tokens rules room [] rs left) front ∙ s.same;
         }
 
-    module _ (is-room : room ≡ min rules.most (length before)) (short : length sheet ≤ 60000) where
+    module _ (is_room : room ≡ min rules.most (length before)) (short : length sheet ≤ 60000) where
       filled : (fault : Option Fault) → Reads rules room sheet (take count table) fault → Fills rules sheet before count fault table
       filled fault reads =
           let w = s.within in
-          record { reads = subst (λ n. Reads rules n sheet (take count table) fault) is-room reads; within = omega arith; long = s.long; rest = s.rest }
+          record { reads = subst (λ n. Reads rules n sheet (take count table) fault) is_room reads; within = omega arith; long = s.long; rest = s.rest }
 
       pub filling_fails : (o : Result R Fault) (f : Fault) → o ≡ Err f → Finds rules room (take (count - 0) table) left (Some o) later → Fills rules sheet before count (Some f) table
       filling_fails o f is found = filled (Some f) (reading_fails rules room sheet (take count table) left s.same short (take (count - 0) table) front later o f is found)

@@ -43,10 +43,10 @@ listed_there (x ∷ links) zero l once within is =
     ∙ ap Some same
 listed_there (x ∷ links) (suc k) l once within is =
     let parts = or_parts (some_pass (λ y. same_pair y x) links) (listed_twice links) once in
-    let within-rest : k < length links = omega arith in
-    let apart = not_there (λ y. same_pair y x) links k l parts.0 within-rest is in
+    let within_rest : k < length links = omega arith in
+    let apart = not_there (λ y. same_pair y x) links k l parts.0 within_rest is in
     cond-false (is_of_pair l.tail l.head x) (Some x) (listed links l.tail l.head) (same_pair_flip x l ∙ apart)
-    ∙ listed_there links k l parts.1 within-rest is
+    ∙ listed_there links k l parts.1 within_rest is
 
 all_allowed : (links : List Link) (a b : Trip) (n : ℕ) → listed_twice links ≡ false → Allows links a b n → listed_link links a b ≡ Some n
 all_allowed links a b n once h =

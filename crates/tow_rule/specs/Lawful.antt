@@ -54,11 +54,11 @@ not_there p (y ∷ xs) (suc k) x none within is = not_there p xs k x (or_parts (
 cost_bound : (l : Link) → outside l ≡ false → l.cost ≤ 1000000000
 cost_bound l e =
     let number = and_parts (nat_le l.number 65535) _ (not-false (link_in_range l) e) in
-    let tail-one = and_parts (nat_le 1 l.tail) _ number.1 in
-    let tail-most = and_parts (nat_le l.tail 65535) _ tail-one.1 in
-    let head-one = and_parts (nat_le 1 l.head) _ tail-most.1 in
-    let head-most = and_parts (nat_le l.head 65535) _ head-one.1 in
-    let order = and_parts (nat_le l.lower l.upper) _ head-most.1 in
+    let tail_one = and_parts (nat_le 1 l.tail) _ number.1 in
+    let tail_most = and_parts (nat_le l.tail 65535) _ tail_one.1 in
+    let head_one = and_parts (nat_le 1 l.head) _ tail_most.1 in
+    let head_most = and_parts (nat_le l.head 65535) _ head_one.1 in
+    let order = and_parts (nat_le l.lower l.upper) _ head_most.1 in
     let upper = and_parts (nat_le l.upper 20160) (nat_le l.cost 1000000000) order.1 in
     leb-true l.cost 1000000000 upper.1
 

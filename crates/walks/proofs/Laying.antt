@@ -115,7 +115,7 @@ module _ (e : Edge) (s : List (Option ℕ)) (long : length s ≡ 1024) (hl : IsB
   }
 
 pub laid_each_way : (e : Edge) (s t : List (Option ℕ)) (l r m : ℕ) → length s ≡ 1024 → IsBerth e.left → IsBerth e.right → l ≡ e.left → r ≡ e.right → m ≡ e.length → t ≡ with_length (with_length s l r m) r l m → EdgeLaid e s t
-laid_each_way e s t l r m long hl hr isL isR isM both =
+laid_each_way e s t l r m long hl hr is_l is_r is_m both =
     let is : t ≡ with_length (with_length s e.left e.right e.length) e.right e.left e.length = cc in
     subst (EdgeLaid e s) (sym is) (laid_both e s long hl hr)
 

@@ -1,6 +1,6 @@
 use Rattle.std.proofs.Common.{◌≡◌, ◌-◌, length, arith, rules}
 use Rattle.plans.specs.Terms.{Terms}
-use Rattle.planner.proofs.Fronts.{in-fronts}
+use Rattle.planner.proofs.Fronts.{in_fronts}
 use Rattle.planner.proofs.planning.search_fronts.Goals as goal
 
 pub returns : goal.returns
@@ -19,4 +19,4 @@ returns g c =
     let e : n - 0 ≡ n = omega arith in
     let ls : length c.search_day.new.successors ≡ n = search rules in
     let lp : length c.search_day.new.prices ≡ n = search rules in
-    in-fronts g.T.Value.Rowed.row terms c.args.trips.now _ c.args.successors.now c.search_day.new.successors c.args.prices.now c.search_day.new.prices _ e ls lp _ _ _ _ c.search_day.result c.search_day.ensures
+    in_fronts g.T.Value.Rowed.row terms c.args.trips.now _ c.args.successors.now c.search_day.new.successors c.args.prices.now c.search_day.new.prices _ e ls lp _ _ _ _ c.search_day.result c.search_day.ensures
