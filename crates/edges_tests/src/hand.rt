@@ -1,5 +1,6 @@
 //! Edges laid by hand, and charts closed and opened again.
 use chart::DrawnChart;
+use faults::Layer;
 use std::process::Abort;
 use std::test::Fail;
 use walks::Edge;
@@ -27,7 +28,7 @@ fn refuses(
         Ok(()) => Err(Fail::new("the edge was laid")),
         Err(fault) => {
             assert_eq!(rt; fault.refusal.number(), number);
-            assert_eq!(rt; fault.layer.word(), "edges");
+            assert_eq!(rt; fault.layer, Layer::Edges);
             assert_eq!(rt; fault.place, place);
             assert_eq!(rt; chart.edges().len(), before);
             Ok(())

@@ -1,9 +1,14 @@
 //! The layers that can refuse, and the words by which they are shown.
-ghost use Rattle.std.specs.Prelude.{◌≡◌};
+ghost use Rattle.std.specs.Prelude.{◌≡◌, Some};
+ghost use Rattle.faults.specs.Shown.{fault_at};
 ghost use Rattle.faults.specs.Words.{word_of};
 
+use crate::fault::Fault;
+use crate::refusal::Refusal;
+use std::fmt;
+
 /// The part of the program that refused: one of the six sheets, the tape, or what is made of them.
-#[derive(Clone, Copy)]
+#[derive(Clone, Copy, PartialEq, Eq, Debug)]
 pub enum Layer {
     /// The sheet of fairways between berths.
     Edges,
@@ -27,12 +32,12 @@ pub enum Layer {
     Planner,
 }
 
-impl Layer {
-    /// The word by which the layer is shown.
-    pub fn word(self) -> &'static str
-        ensures { result.now ≡ word_of self }
-    {
-        match self {
+impl fmt::Display for Layer {
+    ghost output = { λ layer. Some (word_of layer) };
+
+    /// Writes the word by which the layer is shown.
+    fn fmt<W: fmt::Write>(&self, f: &mut fmt::Formatter<W>) -> fmt::Result {
+        f.write_str(match self {
             Layer::Edges => "edges",
             Layer::Events => "events",
             Layer::Activities => "activities",
@@ -43,6 +48,19 @@ impl Layer {
             Layer::Timetable => "timetable",
             Layer::Board => "board",
             Layer::Planner => "planner",
+        })
+    }
+}
+
+impl Layer {
+    /// The fault of this layer with a refusal and the place that it speaks of.
+    pub fn fault(self, refusal: Refusal, place: usize) -> Fault
+        ensures { result ≡ fault_at self refusal place }
+    {
+        Fault {
+            refusal,
+            layer: self,
+            place,
         }
     }
 }

@@ -3,7 +3,7 @@ ghost use Rattle.std.specs.Prelude.{◌≡◌};
 ghost use Rattle.faults.specs.Numbers.{number_of};
 
 /// Why an input or a call is refused. Each case is shown to the user by its number alone.
-#[derive(Clone, Copy)]
+#[derive(Clone, Copy, PartialEq, Eq, Debug)]
 pub enum Refusal {
     /// A sheet or a tape has more than 60,000 bytes.
     InputTooLong,

@@ -7,7 +7,7 @@ use faults::{Fault, Layer, Refusal};
 use sheet::{SheetKind, fill_sheet};
 
 /// What the yard charges, in cents.
-#[derive(Clone, Copy)]
+#[derive(Clone, Copy, PartialEq, Eq, Debug)]
 pub struct Charges {
     /// For the way out to a duty's first trip.
     pub out: u32,

@@ -10,7 +10,7 @@ use sheet::{Filling, SheetKind, fill_sheet};
 
 /// That one tow may follow another: the head trip after the tail trip, if the gap between them is
 /// from `lower` to `upper` minutes.
-#[derive(Clone, Copy)]
+#[derive(Clone, Copy, PartialEq, Eq, Debug)]
 pub struct Link {
     pub number: u16,
     /// The number of the trip that is followed.

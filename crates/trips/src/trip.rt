@@ -3,7 +3,7 @@ ghost use Rattle.std.specs.Prelude.{◌≡◌};
 ghost use Rattle.trips.specs.Gaps.{gap_of, gap_lies_within};
 
 /// A trip of a vessel between two berths.
-#[derive(Clone, Copy)]
+#[derive(Clone, Copy, PartialEq, Eq, Debug)]
 pub struct Trip {
     /// The number by which the trip is known.
     pub number: u16,

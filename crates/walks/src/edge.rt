@@ -1,6 +1,6 @@
 /// A fairway between two berths, as one line of an edges sheet gives it. Its numbers may be any: an edge with an end that is
 /// no berth can be held, and is on no walk.
-#[derive(Clone, Copy)]
+#[derive(Clone, Copy, PartialEq, Eq, Debug)]
 pub struct Edge {
     /// The number that the edge goes by.
     pub number: u16,
