@@ -10,4 +10,4 @@ mod refusal;
 
 pub use fault::Fault;
 pub use layer::Layer;
-pub use refusal::Refusal;
+pub use refusal::{MOST_BYTES, Refusal};

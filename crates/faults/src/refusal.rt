@@ -2,6 +2,9 @@
 ghost use Rattle.std.specs.Prelude.{◌≡◌};
 ghost use Rattle.faults.specs.Numbers.{number_of};
 
+/// A sheet or a tape has at most so many bytes.
+pub const MOST_BYTES: usize = 60_000;
+
 /// Why an input or a call is refused. Each case is shown to the user by its number alone.
 #[derive(Clone, Copy, PartialEq, Eq, Debug)]
 pub enum Refusal {
