@@ -3,7 +3,7 @@ use Rattle.std.specs.Prelude.{◌≡◌, ℕ, ◌+◌, ◌≤◌, List, [], ◌�
 use Rattle.faults.specs.declared.fault.Fault.{Fault}
 use Rattle.walks.specs.declared.edge.Edge.{Edge}
 use Rattle.walks.specs.Walks.{IsBerth, Least}
-use Rattle.walks.specs.Tables.{length_between}
+use Rattle.walks.specs.Tables.{Table, length_between}
 use Rattle.sheet.specs.Says.{Admits, Rejects}
 use Rattle.chart.specs.Edges.{edge_rules, numbers_of}
 
@@ -21,7 +21,7 @@ pub record ChartLaws (es : List Edge) : Type 0 where
   pub far : (x y m : ℕ) → Least es x y (Some m) → m ≤ 18600
 
 -- the answer r of a finished chart, with the edges es and the table t of least lengths, for the way from x to y: what the table has, which is the distance; and the distances obey the laws
-pub record Answers (es : List Edge) (t : List (Option ℕ)) (x y : ℕ) (r : Option ℕ) : Type 0 where
+pub record Answers (es : List Edge) (t : Table) (x y : ℕ) (r : Option ℕ) : Type 0 where
   pub value : r ≡ length_between t x y
   pub least : ∥ Least es x y r ∥₁
   pub laws : ChartLaws es

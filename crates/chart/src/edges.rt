@@ -6,6 +6,9 @@ use faults::{Layer, Refusal};
 use sheet::SheetKind;
 use walks::Edge;
 
+/// A chart has at most so many edges.
+pub(crate) const MOST_EDGES: usize = 200;
+
 /// The kind of the edges sheet: at most 200 edges, of which none joins a berth to itself.
 #[derive(Clone, Copy)]
 pub struct EdgesSheet;
@@ -26,31 +29,27 @@ impl SheetKind for EdgesSheet {
     }
 
     fn made(&self, line: usize, numbers: &[u64]) -> Option<Edge> {
-        let [number, left, right, minutes] = numbers else {
+        let [number, left, right, minutes] = *numbers else {
             return None;
         };
-        if *number > 65535 || *left > 31 || *right > 31 || *minutes < 1 || *minutes > 600 {
+        if left > 31 || right > 31 || minutes < 1 || minutes > 600 {
             return None;
         }
         Some(Edge {
-            number: *number as u16,
-            left: *left as u8,
-            right: *right as u8,
-            length: *minutes as u16,
+            number: u16::try_from(number).ok()?,
+            left: u8::try_from(left).ok()?,
+            right: u8::try_from(right).ok()?,
+            length: u16::try_from(minutes).ok()?,
             line,
         })
     }
 
     fn clash(&self, _earlier: &[Edge], new: &Edge) -> Option<Refusal> {
-        if new.left == new.right {
-            Some(Refusal::JoinsItself)
-        } else {
-            None
-        }
+        (new.left == new.right).then_some(Refusal::JoinsItself)
     }
 
     fn most(&self) -> usize {
-        200
+        MOST_EDGES
     }
 
     fn least(&self) -> usize {

@@ -1,32 +1,19 @@
 //! A finished chart.
-ghost use Rattle.std.specs.Prelude.{◌≡◌, ◌≤◌, true, vec_capacity};
-ghost use Rattle.std.specs.List.{list_all};
-ghost use Rattle.walks.specs.Tables.{TableOf};
-ghost use Rattle.chart.specs.Edges.{is_lawful};
+ghost use Rattle.std.specs.Prelude.{◌≡◌};
+ghost use Rattle.walks.specs.Tables.{TableOf, length_between};
 ghost use Rattle.chart.specs.Charts.{Answers};
 
 use crate::drawn::DrawnChart;
+use crate::laid::LaidEdges;
 use walks::{Edge, LengthTable, least_lengths};
 
 /// A finished chart: it answers distances and takes no edge. It keeps the edges that it was drawn
 /// from, so that it can be opened again.
 #[derive(Drop)]
 pub struct FinishedChart {
-    edges: Vec<Edge>,
+    edges: LaidEdges,
     lengths: LengthTable,
-    ghost room: { 200 ≤ vec_capacity edges },
-    ghost lawful: { list_all is_lawful edges.items ≡ true },
-    ghost closed: { ∥ TableOf edges.items lengths.lengths ∥₁ },
-}
-
-/// A finished chart with these edges.
-fn finish(edges: Vec<Edge>) -> FinishedChart
-    requires room { 200 ≤ vec_capacity edges }
-    requires lawful { list_all is_lawful edges.items ≡ true }
-    ensures { result.edges ≡ edges }
-{
-    let lengths = least_lengths(edges.as_slice());
-    FinishedChart { edges, lengths }
+    ghost closed: { ∥ TableOf edges.list.items lengths.lengths ∥₁ },
 }
 
 impl DrawnChart {
@@ -35,32 +22,33 @@ impl DrawnChart {
         ensures { result.edges ≡ self.edges }
     {
         let DrawnChart { edges } = self;
-        finish(edges)
+        let lengths = least_lengths(edges.list.as_slice());
+        FinishedChart { edges, lengths }
     }
 }
 
 impl FinishedChart {
+    // A drawn chart shows its edges by the same words, since the two are two types, so that neither passes for the other.
+
     /// The edges in the order in which they were laid.
     pub fn edges(&self) -> &[Edge]
-        ensures { result.now ≡ self.now.edges.items }
+        ensures { result.now ≡ self.now.edges.list.items }
     {
-        self.edges.as_slice()
+        self.edges.list.as_slice()
     }
 
-    /// What the chart's table has for two berths.
+    /// What the table has for the way between two numbers.
+    #[tactic(auto, using(crate::proofs::Distances::answer_short))]
     fn minutes_between(&self, from: u8, to: u8) -> Option<u32>
-        ensures { Answers self.now.edges.items self.now.lengths.lengths from to result }
+        ensures { result ≡ length_between self.now.lengths.lengths from to }
     {
-        match self.lengths.between(from, to) {
-            Some(minutes) => Some(minutes as u32),
-            None => None,
-        }
+        u32::try_from(self.lengths.between(from, to)?).ok()
     }
 
     /// The distance in minutes: the least total length over all walks along edges, or None where
     /// there is no walk, as for a number that is no berth.
     pub fn distance(&self, from: u8, to: u8) -> Option<u32>
-        ensures { Answers self.now.edges.items self.now.lengths.lengths from to result }
+        ensures { Answers self.now.edges.list.items self.now.lengths.lengths from to result }
     {
         self.minutes_between(from, to)
     }

@@ -6,6 +6,7 @@
 mod drawn;
 mod edges;
 mod finished;
+mod laid;
 
 pub use drawn::{Drawing, DrawnChart};
 pub use edges::EdgesSheet;

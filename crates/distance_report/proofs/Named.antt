@@ -1,13 +1,18 @@
--- One berth more in the list of those that edges name. Assumes nothing.
-use Rattle.std.proofs.Common.{◌≡◌, ℕ, ◌+◌, Bool, true, false, cond, List, [], ◌∷◌, ◌++◌, sym, ap, ◌∙◌, append-nil, add-one}
+-- The berths that edges name, picked from all. Assumes nothing.
+use Rattle.std.proofs.Common.{◌≡◌, ℕ, zero, suc, ◌+◌, cond, List, [], ◌∷◌, ◌++◌, refl, ap, ◌∙◌, arith}
+use Rattle.std.specs.List.{filter, range_with_len}
+use Rattle.std.proofs.lemmas.List.Elements.{filter-append}
 use Rattle.walks.specs.declared.edge.Edge.{Edge}
 use Rattle.distance_report.specs.Berths.{berth_is_named, named_below}
 
-named_step : (es : List Edge) (x : ℕ) (t : Bool) → t ≡ berth_is_named es x → named_below es (x + 1) ≡ named_below es x ++ cond t (x ∷ []) []
-named_step es x t e = ap (named_below es) (add-one x) ∙ ap (λ b. named_below es x ++ cond b (x ∷ []) []) (sym e)
+range_push : (a n : ℕ) → range_with_len a (suc n) ≡ range_with_len a n ++ (a + n) ∷ []
+range_push a zero = let e : a ≡ a + 0 = omega arith in ap (λ m. m ∷ []) e
+range_push a (suc n) = let e : a + 1 + n ≡ a + suc n = omega arith in ap (λ l. a ∷ l) (range_push (a + 1) n ∙ ap (λ m. range_with_len (a + 1) n ++ m ∷ []) e)
 
-pub named_more : (es : List Edge) (x : ℕ) (bs cs : List ℕ) → bs ≡ named_below es x → true ≡ berth_is_named es x → cs ≡ bs ++ x ∷ [] → cs ≡ named_below es (x + 1)
-named_more es x bs cs so e is = is ∙ ap (λ l. l ++ x ∷ []) so ∙ sym (named_step es x true e)
-
-pub named_not : (es : List Edge) (x : ℕ) (bs : List ℕ) → bs ≡ named_below es x → false ≡ berth_is_named es x → bs ≡ named_below es (x + 1)
-named_not es x bs so e = so ∙ sym (named_step es x false e ∙ append-nil (named_below es x))
+pub named_is : (es : List Edge) (n : ℕ) → filter (berth_is_named es) (range_with_len 0 n) ≡ named_below es n
+named_is es zero = refl
+named_is es (suc n) =
+    let e : 0 + n ≡ n = omega arith in
+    ap (filter (berth_is_named es)) (range_push 0 n ∙ ap (λ m. range_with_len 0 n ++ m ∷ []) e)
+    ∙ filter-append (berth_is_named es) (range_with_len 0 n) (n ∷ [])
+    ∙ ap (λ l. l ++ cond (berth_is_named es n) (n ∷ []) []) (named_is es n)

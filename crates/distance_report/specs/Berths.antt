@@ -1,6 +1,6 @@
 -- The berths that edges name. Assumes nothing.
 use Rattle.std.specs.Prelude.{ℕ, zero, suc, Bool, cond, ◌||◌, List, [], ◌∷◌, ◌++◌, ◌==◌}
-use Rattle.lists.specs.Some.{some_pass}
+use Rattle.std.specs.List.{list_any}
 use Rattle.walks.specs.declared.edge.Edge.{Edge}
 
 -- whether the edge begins or ends at x
@@ -9,7 +9,7 @@ ends_at e x = e.left == x || e.right == x
 
 -- whether some edge begins or ends at x
 abbrev pub berth_is_named : List Edge → ℕ → Bool
-berth_is_named es x = some_pass (λ e. ends_at e x) es
+berth_is_named es x = list_any (λ e. ends_at e x) es
 
 -- those of the numbers below n where an edge begins or ends, in order
 abbrev pub named_below : List Edge → ℕ → List ℕ

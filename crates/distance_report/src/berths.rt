@@ -16,23 +16,14 @@ fn ends_at(edge: &Edge, berth: u8) -> bool
 fn is_named(edges: &[Edge], berth: u8) -> bool
     ensures { result ≡ berth_is_named edges.now berth }
 {
-    for edge in edges {
-        if ends_at(edge, berth) {
-            return true;
-        }
-    }
-    false
+    edges.iter().any(|edge| ends_at(edge, berth))
 }
 
 /// The berths where an edge begins or ends, in order.
 pub(crate) fn berths_of(heap: Global, edges: &[Edge]) -> Result<Vec<u8>, AllocError>
     ensures { IfOk result (λ berths. berths.items ≡ named_berths edges.now) }
 {
-    let mut berths = Vec::new(heap);
-    for berth in 0..32 {
-        if is_named(edges, berth) {
-            berths.push(berth)?;
-        }
-    }
-    Ok(berths)
+    (0..32)
+        .filter(|berth| is_named(edges, *berth))
+        .collect(heap)
 }

@@ -3,6 +3,7 @@
 
 mod berths;
 mod cells;
+mod lines;
 mod table;
 
-pub use table::distance_lines;
+pub use lines::distance_lines;

@@ -24,16 +24,13 @@ fn refuses(
     place: usize,
 ) -> Result<(), Fail> {
     let before = chart.edges().len();
-    match chart.lay(edge) {
-        Ok(()) => Err(Fail::new("the edge was laid")),
-        Err(fault) => {
-            assert_eq!(rt; fault.refusal.number(), number);
-            assert_eq!(rt; fault.layer, Layer::Edges);
-            assert_eq!(rt; fault.place, place);
-            assert_eq!(rt; chart.edges().len(), before);
-            Ok(())
-        }
-    }
+    let Err(fault) = chart.lay(edge) else {
+        return Err(Fail::new("the edge was laid"));
+    };
+    assert_eq!(rt; fault.refusal.number(), number);
+    assert_eq!(rt; fault, Layer::Edges.fault(fault.refusal, place));
+    assert_eq!(rt; chart.edges().len(), before);
+    Ok(())
 }
 
 #[test]

@@ -1,7 +1,7 @@
-pub mod Puts
+pub mod Judging
 pub mod Saying
 pub mod Only
 pub mod Tokenwise
-pub mod Listed
+pub mod Taking
 pub mod Every
-pub mod Filled
+pub mod Taken

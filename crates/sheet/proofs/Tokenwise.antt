@@ -1,11 +1,9 @@
--- That reading a sheet by its tokens is reading it by its lines, and what holds within a line. Assumes nothing.
-use Rattle.std.proofs.Common.{◌≡◌, ℕ, ◌+◌, ◌≤◌, Bool, true, false, cond, List, [], ◌∷◌, ◌++◌, length, Ok, Err, Option, Result, sym, refl, ap, ◌∙◌, append_assoc, append-nil}
+-- That reading a sheet by its tokens is reading it by its lines. Assumes nothing.
+use Rattle.std.proofs.Common.{◌≡◌, ℕ, ◌+◌, Bool, true, false, cond, List, [], ◌∷◌, ◌++◌, Ok, Err, Option, Result, sym, refl, ap, ◌∙◌, append_assoc, append-nil}
 use Rattle.faults.specs.declared.fault.Fault.{Fault}
 use Rattle.tokens.specs.Text.{fields, comment}
 use Rattle.tokens.specs.Tokens.{Tok, stop, words, toks}
-use Rattle.sheet.specs.declared.row.Row.{Row}
 use Rattle.sheet.specs.Rules.{Rules}
-use Rattle.sheet.specs.Rows.{Holds}
 use Rattle.sheet.specs.Reading.{judged, go_on, read_tokens, read_lines}
 
 module _ {R : Type 0} (rules : Rules R) (room : ℕ) where
@@ -25,10 +23,3 @@ module _ {R : Type 0} (rules : Rules R) (room : ℕ) where
   pub lines_read : (ls : List (List ℕ)) (n : ℕ) (rs : List R) → read_tokens rules room [] rs (toks n ls) ≡ read_lines rules room n rs ls
   lines_read [] n rs = refl
   lines_read (l ∷ ls) n rs = line_read (comment l) n rs (fields l) (toks (n + 1) ls) (λ qs. read_lines rules room (n + 1) qs ls) (λ qs. lines_read ls (n + 1) qs)
-
-  -- within a line: the row holds the fields so far, and what was to come from the tokens at first still comes
-  pub record InLine (rs : List R) (first : List Tok) (row : Row) (left : List Tok) : Type 0 where
-    pub texts : List (List ℕ)
-    pub holds : Holds row texts
-    pub same : read_tokens rules room texts rs left ≡ read_tokens rules room [] rs first
-    pub fewer : length left ≤ length first

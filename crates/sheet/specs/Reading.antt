@@ -1,5 +1,5 @@
 -- How a reader goes through a sheet, token by token and line by line. Says has what a sheet says in the format's own words. Assumes nothing.
-use Rattle.std.specs.Prelude.{◌≡◌, ℕ, ◌+◌, ◌<◌, Bool, true, cond, ◌&&◌, List, [], ◌∷◌, ◌++◌, map, length, is_some, Some, None, Ok, Err, Option, Result, nat_le, nat_lt}
+use Rattle.std.specs.Prelude.{ℕ, ◌+◌, Bool, true, cond, ◌&&◌, List, [], ◌∷◌, ◌++◌, map, length, is_some, Some, None, Ok, Err, Option, Result, nat_le, nat_lt}
 use Rattle.std.specs.Option.{unwrap_or}
 use Rattle.faults.specs.declared.refusal.Refusal.{Refusal}
 use Rattle.faults.specs.declared.refusal.Refusal.TheVariants.{InputTooLong, FieldCount, NotANumber, OutOfRange, RecordCount}
@@ -66,9 +66,3 @@ module _ {R : Type 0} (rules : Rules R) (room : ℕ) where
 
   abbrev pub read_sheet : List ℕ → List R × Option Fault
   read_sheet sheet = cond (nat_le (length sheet) 60000) (read_lines 1 [] (lines sheet)) ([], Some (fault_at rules.layer InputTooLong 0))
-
-  -- what is found next among the tokens ts, after the records rs, and the tokens us that are left
-  abbrev pub Finds : List R → List Tok → Option (Result R Fault) → List Tok → Type 0
-  Finds rs ts None us = read_tokens [] rs ts ≡ at_end rs
-  Finds rs ts (Some (Err f)) us = read_tokens [] rs ts ≡ (rs, Some f)
-  Finds rs ts (Some (Ok r)) us = (read_tokens [] rs ts ≡ read_tokens [] (rs ++ r ∷ []) us) × (length us < length ts) × (length rs < room)

@@ -1,7 +1,6 @@
 //! Whether a record may be kept.
 ghost use Rattle.std.specs.Prelude.{◌≡◌, ℕ, ◌<◌, List, length, MatchResult, OnOk};
 ghost use Rattle.sheet.specs.Says.{Admits, Rejects};
-ghost use Rattle.faults.specs.Shown.{fault_at};
 ghost use Rattle.sheet.specs.Reading.{admitted, judged};
 ghost use Rattle.sheet.specs.Rows.{Holds};
 
@@ -9,16 +8,8 @@ use crate::kind::SheetKind;
 use crate::row::Row;
 use faults::{Fault, Refusal};
 
-/// A fault of a sheet of this kind.
-pub(crate) fn fault_of<K: SheetKind>(kind: &K, refusal: Refusal, place: usize) -> Fault
-    ensures { result ≡ fault_at (K.SheetKind.rules kind.now).layer refusal place }
-{
-    Fault {
-        refusal,
-        layer: kind.layer(),
-        place,
-    }
-}
+// The kind, the earlier records, the room and the line are passed one by one: a type for them would be made anew at each
+// line, to be taken apart at once.
 
 /// The record of a line's numbers after the records before it, or the first refusal: a number out of
 /// range, no room for the record, what the kind itself forbids.
@@ -31,19 +22,21 @@ fn admit_numbers<K: SheetKind>(
 ) -> Result<K::Record, Fault>
     ensures { result ≡ admitted (K.SheetKind.rules kind.now) room line earlier.now numbers.now }
 {
-    let Some(new) = kind.made(line, numbers) else {
-        return Err(fault_of(kind, Refusal::OutOfRange, line));
-    };
+    let layer = kind.layer();
+    let new = kind
+        .made(line, numbers)
+        .ok_or(layer.fault(Refusal::OutOfRange, line))?;
     if earlier.len() >= room {
-        return Err(fault_of(kind, Refusal::RecordCount, 0));
+        return Err(layer.fault(Refusal::RecordCount, 0));
     }
     match kind.clash(earlier, &new) {
-        Some(refusal) => Err(fault_of(kind, refusal, line)),
+        Some(refusal) => Err(layer.fault(refusal, line)),
         None => Ok(new),
     }
 }
 
 /// The record of a line's numbers after the records before it, as a sheet would take it or refuse it.
+// `admit_numbers` says it step by step, for `judge` too; this function says it in the words of the format.
 pub fn admit<K: SheetKind>(
     kind: &K,
     earlier: &[K::Record],
@@ -67,11 +60,10 @@ pub(crate) fn judge<K: SheetKind>(
     ensures room { OnOk result (length earlier.now < room) }
     ensures value { (fs : List (List ℕ)) → Holds row.now fs → result ≡ judged (K.SheetKind.rules kind.now) room line earlier.now fs }
 {
-    if row.count > 8 || !kind.takes(row.count) {
-        return Err(fault_of(kind, Refusal::FieldCount, line));
+    let layer = kind.layer();
+    if !kind.takes(row.len()) {
+        return Err(layer.fault(Refusal::FieldCount, line));
     }
-    if !row.numeric {
-        return Err(fault_of(kind, Refusal::NotANumber, line));
-    }
-    admit_numbers(kind, earlier, room, line, &row.numbers[0..row.count])
+    let numbers = row.numbers().ok_or(layer.fault(Refusal::NotANumber, line))?;
+    admit_numbers(kind, earlier, room, line, numbers.as_slice())
 }

@@ -5,13 +5,12 @@
 mod admission;
 mod filling;
 mod kind;
-mod line;
 mod listing;
+mod reading;
 mod row;
+mod store;
 
 pub use admission::admit;
-pub use filling::Filling;
-pub use filling::fill::fill_sheet;
+pub use filling::{Filling, fill_sheet};
 pub use kind::SheetKind;
-pub use listing::Listing;
-pub use listing::list::list_sheet;
+pub use listing::{Listing, list_sheet};

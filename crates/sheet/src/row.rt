@@ -1,23 +1,17 @@
 //! The numbers of one line.
-ghost use Rattle.std.specs.Prelude.{◌≡◌, ℕ, ◌+◌, min, List, [], ◌∷◌, ◌++◌};
-ghost use Rattle.sheet.specs.Rows.{Holds};
+ghost use Rattle.std.specs.Prelude.{◌≡◌, ℕ, List, [], ◌∷◌, ◌++◌, length, option_map};
+ghost use Rattle.sheet.specs.Rows.{Holds, all_given, items_of};
 
+use arrayvec::ArrayVec;
 use tokens::number;
 
-/// What is kept of a line's fields while it is read: the first eight numbers, how many fields there
-/// are (nine for any more), and whether each of them is a number.
-#[derive(Clone, Copy)]
-pub(crate) struct Row {
-    pub(crate) numbers: [u64; 8],
-    pub(crate) count: usize,
-    pub(crate) numeric: bool,
-}
+/// So many fields of a line are kept: one more than any kind of sheet takes.
+const FIELDS_KEPT: usize = 9;
 
-/// One more, and nine from nine on.
-fn one_more(count: usize) -> usize
-    ensures { result ≡ min 9 (count + 1) }
-{
-    if count < 9 { count + 1 } else { 9 }
+/// What is kept of a line's fields while it is read: of each of the first nine its number, if it is one.
+#[derive(Drop)]
+pub(crate) struct Row {
+    fields: ArrayVec<Option<u64>, FIELDS_KEPT>,
 }
 
 impl Row {
@@ -26,9 +20,7 @@ impl Row {
         ensures { Holds result [] }
     {
         Row {
-            numbers: [0; 8],
-            count: 0,
-            numeric: true,
+            fields: ArrayVec::new(),
         }
     }
 
@@ -36,12 +28,26 @@ impl Row {
     pub(crate) fn put(&mut self, text: &[u8])
         ensures { (fs : List (List ℕ)) → Holds self.old fs → Holds self.new (fs ++ text.now ∷ []) }
     {
-        let found = number(text);
-        let at = self.count;
-        if at < 8 {
-            self.numbers[at] = found.unwrap_or(0);
+        if !self.fields.is_full() {
+            self.fields.push(number(text));
         }
-        self.count = one_more(at);
-        self.numeric = self.numeric & found.is_some();
+    }
+
+    /// How many fields are kept.
+    pub(crate) fn len(&self) -> usize
+        ensures { result ≡ length self.now.fields.items }
+    {
+        self.fields.len()
+    }
+
+    /// The numbers of the fields that are kept, or None where one of them is no number.
+    pub(crate) fn numbers(&self) -> Option<ArrayVec<u64, FIELDS_KEPT>>
+        ensures { option_map items_of result ≡ all_given self.now.fields.items }
+    {
+        let mut numbers = ArrayVec::new();
+        for field in self.fields.as_slice() {
+            numbers.push((*field)?);
+        }
+        Some(numbers)
     }
 }

@@ -1,11 +1,10 @@
 -- Where lines and fields are cut. Assumes nothing.
-use Rattle.std.proofs.Common.{◌≡◌, ℕ, suc, ◌+◌, ◌-◌, ◌<◌, ◌≤◌, Bool, true, false, cond, not, eqb, List, [], ◌∷◌, ◌++◌, map, length, take, drop, sym, refl, ap, ◌∙◌, ⊎_elim, one-add, arith}
-use Rattle.std.proofs.lemmas.List.{take_all, drop_all}
+use Rattle.std.proofs.Common.{◌≡◌, ℕ, suc, ◌+◌, ◌<◌, ◌≤◌, Bool, true, false, cond, not, eqb, List, [], ◌∷◌, ◌++◌, map, length, take, drop, Some, None, Option, unwrap_or, Bor, sym, refl, ap, ◌∙◌, ⊎_elim, one-add, arith}
+use Rattle.std.specs.Slice.{IsGetRangeResult}
+use Rattle.std.proofs.lemmas.List.{take_all, take_rest, drop_all}
 use Rattle.std.proofs.lemmas.Bool.{cases_lt}
-use Rattle.tokens.specs.declared.reader.Stage.{Stage}
-use Rattle.tokens.specs.declared.reader.Stage.TheVariants.{Between, Inside, Ended}
-use Rattle.tokens.specs.Text.{on_first, lines, pieces, fields, trimmed, before, comment}
-use Rattle.tokens.specs.Tokens.{word, stop, words, line_toks, toks, to_come}
+use Rattle.tokens.specs.Text.{on_first, lines, pieces, trimmed, before, comment}
+use Rattle.tokens.specs.Tokens.{word, stop, words, line_toks, toks, line_rest}
 
 cut_step : (t : Bool) (b : ℕ) (bs : List ℕ) (k : ℕ) (F : List ℕ → List (List ℕ)) → (t ≡ false → F bs ≡ take k bs ∷ F (drop (k + 1) bs)) → cond t ([] ∷ F bs) (on_first b (F bs)) ≡ take (cond (not t) (1 + k) 0) (b ∷ bs) ∷ F (drop (cond (not t) (1 + k) 0 + 1) (b ∷ bs))
 cut_step true b bs k F ih = refl
@@ -50,47 +49,38 @@ lines_cut bs k e some =
     (cases_lt (before 10 bs) (length bs)) in
     at ∙ ap (λ i. take i bs ∷ lines (drop (i + 1) bs)) (sym e)
 
-module _ (st : Stage) (inside : st ≡ Inside) (line n : ℕ) (body rest text after : List ℕ) (k : ℕ) (at : k ≡ before 59 body) (is : text ≡ trimmed (take (k - 0) body)) where
-  begun : to_come st line n body rest ≡ to_come Inside line n body rest
-  begun = ap (λ s. to_come s line n body rest) inside
-
-  cut_text : text ≡ trimmed (take k body)
-  cut_text = let e : k - 0 ≡ k = omega arith in is ∙ ap (λ i. trimmed (take i body)) e
-
+-- the bytes of a field: k stand before the next semicolon
+module _ (line n : ℕ) (body rest text : List ℕ) (k : ℕ) (at : k ≡ before 59 body) (is : text ≡ trimmed (take k body)) where
   -- a field that a semicolon ends
-  pub field_more : k < length body → after ≡ drop (k + 1) body → to_come st line n body rest ≡ word text line (n + 1) ∷ to_come st line (n + 1) after rest
-  field_more h e =
+  pub field_more : (after : List ℕ) → k < length body → after ≡ drop (k + 1) body → line_rest line n body rest ≡ word text line (n + 1) ∷ line_rest line (n + 1) after rest
+  field_more after h e =
       let p : pieces body ≡ take k body ∷ pieces after = cut_more 59 pieces (λ b cs. refl) body (omega arith) ∙ ap (λ i. take i body ∷ pieces (drop (i + 1) body)) (sym at) ∙ ap (λ l. take k body ∷ pieces l) (sym e) in
-      begun
-      ∙ ap (λ ps. words line (n + 1) (map trimmed ps) ++ (stop line ∷ toks (line + 1) (lines rest))) p
-      ∙ ap (λ t. word t line (n + 1) ∷ to_come Inside line (n + 1) after rest) (sym cut_text)
-      ∙ ap (λ s. word text line (n + 1) ∷ to_come s line (n + 1) after rest) (sym inside)
+      ap (λ ps. words line (n + 1) (map trimmed ps) ++ (stop line ∷ toks (line + 1) (lines rest))) p
+      ∙ ap (λ t. word t line (n + 1) ∷ line_rest line (n + 1) after rest) (sym is)
 
   -- the last field of a line
-  pub field_last : length body ≤ k → to_come st line n body rest ≡ word text line (n + 1) ∷ to_come Ended line (n + 1) after rest
+  pub field_last : length body ≤ k → line_rest line n body rest ≡ word text line (n + 1) ∷ (stop line ∷ toks (line + 1) (lines rest))
   field_last h =
       let p : pieces body ≡ take k body ∷ [] = pieces_last body (omega arith) ∙ ap (λ l. l ∷ []) (sym (take_all k body h)) in
-      begun
-      ∙ ap (λ ps. words line (n + 1) (map trimmed ps) ++ (stop line ∷ toks (line + 1) (lines rest))) p
-      ∙ ap (λ t. word t line (n + 1) ∷ (stop line ∷ toks (line + 1) (lines rest))) (sym cut_text)
+      ap (λ ps. words line (n + 1) (map trimmed ps) ++ (stop line ∷ toks (line + 1) (lines rest))) p
+      ∙ ap (λ t. word t line (n + 1) ∷ (stop line ∷ toks (line + 1) (lines rest))) (sym is)
 
--- one line more is begun
-module _ (st : Stage) (between : st ≡ Between) (line n : ℕ) (body rest text after : List ℕ) (k : ℕ) (some : 0 < length rest) (at : k ≡ before 10 rest) (is : text ≡ take (k - 0) rest) (next : after ≡ drop (k + 1) rest) where
-  cut_line : to_come st line n body rest ≡ line_toks (line + 1) text (toks (line + 1 + 1) (lines after))
-  cut_line =
-      let e : k - 0 ≡ k = omega arith in
-      ap (λ s. to_come s line n body rest) between
-      ∙ ap (toks (line + 1)) (lines_cut rest k at some ∙ ap (λ l. l ∷ lines (drop (k + 1) rest)) (sym (is ∙ ap (λ i. take i rest) e)) ∙ ap (λ l. text ∷ lines l) (sym next))
+-- the bytes after the next line feed, if there is one
+pub rest_is : (bs : List ℕ) (k : ℕ) (found : Option (Bor (List ℕ))) (none rest : Bor (List ℕ)) → none.now ≡ [] → IsGetRangeResult bs (k + 1) (length bs) found → rest ≡ unwrap_or found none → rest.now ≡ drop (k + 1) bs
+rest_is bs k None none rest e h is = ap (λ r. r.now) is ∙ e ∙ sym (drop_all (k + 1) bs (omega (arith, h.0)))
+rest_is bs k (Some r) none rest e h is = ap (λ r. r.now) is ∙ h.0.2 ∙ take_rest bs (k + 1)
 
-  pub line_skip : comment text ≡ true → to_come st line n body rest ≡ to_come st (line + 1) n body after
-  line_skip t =
-      cut_line ∙ ap (λ b. cond b (toks (line + 1 + 1) (lines after)) (words (line + 1) 1 (fields text) ++ (stop (line + 1) ∷ toks (line + 1 + 1) (lines after)))) t
-      ∙ ap (λ s. to_come s (line + 1) n body after) (sym between)
+-- one line more is begun: k bytes stand before the next line feed
+module _ (line : ℕ) (rest text after : List ℕ) (k : ℕ) (some : 0 < length rest) (at : k ≡ before 10 rest) (is : text ≡ take k rest) (next : after ≡ drop (k + 1) rest) where
+  cut_line : toks (line + 1) (lines rest) ≡ line_toks (line + 1) text (toks (line + 1 + 1) (lines after))
+  cut_line = ap (toks (line + 1)) (lines_cut rest k at some ∙ ap (λ l. l ∷ lines (drop (k + 1) rest)) (sym is) ∙ ap (λ l. text ∷ lines l) (sym next))
 
-  pub line_found : comment text ≡ false → to_come st line n body rest ≡ to_come Inside (line + 1) 0 text after
-  line_found t =
-      cut_line ∙ ap (λ b. cond b (toks (line + 1 + 1) (lines after)) (words (line + 1) 1 (fields text) ++ (stop (line + 1) ∷ toks (line + 1 + 1) (lines after)))) t
+  pub line_skip : comment text ≡ true → toks (line + 1) (lines rest) ≡ toks (line + 1 + 1) (lines after)
+  line_skip t = cut_line ∙ ap (λ b. cond b (toks (line + 1 + 1) (lines after)) (line_rest (line + 1) 0 text after)) t
 
-pub line_none : (st : Stage) (line n : ℕ) (body rest : List ℕ) → st ≡ Between → length rest ≡ 0 → to_come st line n body rest ≡ []
-line_none st line n body [] e h = ap (λ s. to_come s line n body []) e
-line_none st line n body (b ∷ bs) e h = absurd (omega arith)
+  pub line_found : comment text ≡ false → toks (line + 1) (lines rest) ≡ line_rest (line + 1) 0 text after
+  line_found t = cut_line ∙ ap (λ b. cond b (toks (line + 1 + 1) (lines after)) (line_rest (line + 1) 0 text after)) t
+
+pub line_none : (line : ℕ) (rest : List ℕ) → length rest ≡ 0 → toks (line + 1) (lines rest) ≡ []
+line_none line [] h = refl
+line_none line (b ∷ bs) h = absurd (omega arith)

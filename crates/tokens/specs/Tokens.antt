@@ -35,15 +35,19 @@ toks n (l ∷ ls) = line_toks n l (toks (n + 1) ls)
 abbrev pub tokens_of : List ℕ → List Tok
 tokens_of sheet = toks 1 (lines sheet)
 
--- what is still to come of the current line, after its field n, and of the lines in rest
-abbrev pub to_come : Stage → ℕ → ℕ → List ℕ → List ℕ → List Tok
-to_come Between line n body rest = toks (line + 1) (lines rest)
-to_come Inside line n body rest = words line (n + 1) (fields body) ++ (stop line ∷ toks (line + 1) (lines rest))
-to_come Ended line n body rest = stop line ∷ toks (line + 1) (lines rest)
+-- what is still to come of the line after its field n, with its bytes in body, and of the lines in rest
+abbrev pub line_rest : ℕ → ℕ → List ℕ → List ℕ → List Tok
+line_rest line n body rest = words line (n + 1) (fields body) ++ (stop line ∷ toks (line + 1) (lines rest))
+
+-- what is still to come of the current line and of the lines in rest
+abbrev pub to_come : Stage → ℕ → List ℕ → List Tok
+to_come Between line rest = toks (line + 1) (lines rest)
+to_come (Inside body n) line rest = line_rest line n body.now rest
+to_come Ended line rest = stop line ∷ toks (line + 1) (lines rest)
 
 -- what a reader still hands on
 abbrev pub left : Reader → List Tok
-left r = to_come r.stage r.line r.field r.body.now r.rest.now
+left r = to_come r.stage r.line r.rest.now
 
 -- what one call of `next` does: it hands on the first token that was to come
 abbrev pub Next : Reader → Option Token → Reader → Type 0

@@ -1,6 +1,6 @@
 //! A reader over the bytes of a sheet, and the tokens that it hands on.
 ghost use Rattle.std.specs.Prelude.{◌+◌, ◌^◌, ◌≤◌, length};
-ghost use Rattle.tokens.specs.Stages.{fields_owed};
+ghost use Rattle.tokens.specs.Stages.{most_fields};
 
 mod scan;
 
@@ -21,11 +21,16 @@ pub enum Token<'a> {
 
 /// Where a reader stands in its current line.
 #[derive(Clone, Copy)]
-pub(crate) enum Stage {
+pub(crate) enum Stage<'a> {
     /// Before a line, or at the end of the sheet.
     Between,
     /// In a line, with a field to come.
-    Inside,
+    Inside {
+        /// What is left of the line.
+        body: &'a [u8],
+        /// The last field handed on of the line, or 0 before its first.
+        field: usize,
+    },
     /// In a line, after its last field.
     Ended,
 }
@@ -35,13 +40,9 @@ pub(crate) enum Stage {
 pub struct Reader<'a> {
     /// The bytes after the current line.
     rest: &'a [u8],
-    /// What is left of the current line.
-    body: &'a [u8],
-    stage: Stage,
+    stage: Stage<'a>,
     /// The current line, or 0 before the first.
     line: usize,
-    /// The last field handed on of the current line, or 0 before its first.
-    field: usize,
     ghost lines_fit: { line + length rest.now ≤ 2 ^ 63 },
-    ghost fields_fit: { fields_owed stage + (field + length body.now) ≤ 2 ^ 63 },
+    ghost fields_fit: { most_fields stage ≤ 2 ^ 63 },
 }

@@ -3,16 +3,14 @@ ghost use Rattle.std.specs.Prelude.{◌≡◌, ◌+◌, ◌≤◌, length, if◌
 ghost use Rattle.std.specs.List.{prefix_len, suffix_len};
 ghost use Rattle.tokens.specs.Text.{before, space, trimmed, all_digits, decimal_after, numeral};
 
+// That a count is at most the number of bytes is said of each count, which is a number and no value of a type of its own.
+
 /// How many bytes stand before the first `separator`: all of them where there is none.
 pub(crate) fn bytes_before(bytes: &[u8], separator: u8) -> usize
     ensures value { result ≡ before separator bytes.now }
     ensures bound { result ≤ length bytes.now }
 {
-    let mut at = 0;
-    while at < bytes.len() && bytes[at] != separator {
-        at += 1;
-    }
-    at
+    bytes.iter().take_while(|byte| **byte != separator).count()
 }
 
 /// How many spaces stand in front.
@@ -20,23 +18,15 @@ fn leading_spaces(bytes: &[u8]) -> usize
     ensures value { result ≡ prefix_len space bytes.now }
     ensures bound { result ≤ length bytes.now }
 {
-    let mut at = 0;
-    while at < bytes.len() && bytes[at] == b' ' {
-        at += 1;
-    }
-    at
+    bytes.iter().take_while(|byte| **byte == b' ').count()
 }
 
-/// Where the text ends without the spaces at its end.
-fn end_without_spaces(bytes: &[u8]) -> usize
-    ensures value { result + suffix_len space bytes.now ≡ length bytes.now }
+/// How many spaces stand at the end.
+fn trailing_spaces(bytes: &[u8]) -> usize
+    ensures value { result ≡ suffix_len space bytes.now }
     ensures bound { result ≤ length bytes.now }
 {
-    let mut end = bytes.len();
-    while end > 0 && bytes[end - 1] == b' ' {
-        end -= 1;
-    }
-    end
+    bytes.iter().rev().take_while(|byte| **byte == b' ').count()
 }
 
 /// The text without the spaces around it.
@@ -44,7 +34,7 @@ pub(crate) fn trim(bytes: &[u8]) -> &[u8]
     ensures { result.now ≡ trimmed bytes.now }
 {
     let text = &bytes[leading_spaces(bytes)..];
-    &text[0..end_without_spaces(text)]
+    &text[..text.len() - trailing_spaces(text)]
 }
 
 /// A number has at most so many digits.
@@ -52,12 +42,12 @@ const MOST_DIGITS: usize = 10;
 
 /// The number that at most ten digits write, and None where one of them is no digit.
 fn decimal(text: &[u8]) -> Option<u64>
-    requires { length text.now ≤ 10 }
+    requires { length text.now ≤ MOST_DIGITS }
     ensures { result ≡ (if all_digits text.now then Some (decimal_after 0 text.now) else None) }
 {
     let mut sum = 0u64;
     for digit in text {
-        if *digit < b'0' || *digit > b'9' {
+        if !digit.is_ascii_digit() {
             return None;
         }
         sum = sum * 10 + u64::from(*digit - b'0');

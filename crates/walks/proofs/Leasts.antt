@@ -71,16 +71,6 @@ shorter_old n (Some m) k h =
     (λ f. let e = cond-false (ltb n m) n m f in omega arith)
     (cases_Bool (ltb n m))
 
-pub shorter_within : (most n : ℕ) (o : Option ℕ) → n ≤ most → shorter n o ≤ most
-shorter_within most n o h = let l = shorter_new n o in omega arith
-
--- The same length once more changes nothing.
-pub shorter_twice : (n : ℕ) (o : Option ℕ) → shorter n (Some (shorter n o)) ≡ shorter n o
-shorter_twice n o =
-    let k = shorter n o in
-    let low = shorter_new n o in
-    ⊎_elim (λ t. let e = cond-true (ltb n k) n k t in let l = ltb-true n k t in absurd (omega arith)) (λ f. cond-false (ltb n k) n k f) (cases_Bool (ltb n k))
-
 -- One more number is allowed.
 pub least_more : (P Q : ℕ → Type 0) (m : ℕ) (o : Option ℕ) → ((n : ℕ) → P n → Q n) → Q m → ((n : ℕ) → Q n → P n ⊎ (n ≡ m)) → LeastOf P o → LeastOf Q (Some (shorter m o))
 least_more P Q m o keep new only l = (

@@ -1,12 +1,12 @@
 -- What is read between any two numbers is the least length of a walk between them. Assumes nothing.
-use Rattle.std.proofs.Common.{ℕ, cond, ltb, List, None, Option, sym, ◌∙◌, subst, ⊎_elim, arith}
+use Rattle.std.proofs.Common.{ℕ, cond, ltb, List, None, sym, ◌∙◌, subst, ⊎_elim, arith}
 use Rattle.std.proofs.lemmas.Bool.{cases_lt, lt-ltb, le-ltb, cond-true, cond-false}
 use Rattle.walks.specs.declared.edge.Edge.{Edge}
 use Rattle.walks.specs.Walks.{Least}
-use Rattle.walks.specs.Tables.{at, length_between, TableOf}
+use Rattle.walks.specs.Tables.{Table, at, length_between, TableOf}
 use Rattle.walks.proofs.Existence.{walk_from, walk_to}
 
-pub least_between : (es : List Edge) (t : List (Option ℕ)) → TableOf es t → (x y : ℕ) → Least es x y (length_between t x y)
+pub least_between : (es : List Edge) (t : Table) → TableOf es t → (x y : ℕ) → Least es x y (length_between t x y)
 unfolding TableOf
 least_between es t table x y =
     ⊎_elim

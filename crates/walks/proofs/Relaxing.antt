@@ -3,7 +3,7 @@ use Rattle.std.proofs.Common.{◌≡◌, ℕ, ◌+◌, ◌<◌, ◌⊎◌, List,
 use Rattle.std.proofs.lemmas.Bool.{cases_lt, cases_eq}
 use Rattle.walks.specs.declared.edge.Edge.{Edge}
 use Rattle.walks.specs.Walks.{IsBerth, Step, Walk, stay, go, LeastOf, Least}
-use Rattle.walks.specs.Tables.{at, via, TableOf}
+use Rattle.walks.specs.Tables.{Table, at, via, TableOf}
 use Rattle.walks.proofs.Leasts.{AtMost, most_out, most_in, most_le, least_holds, least_low, least_from}
 use Rattle.walks.proofs.Ways.{Parts, via_first, via_last, via_old, via_parts, via_is}
 
@@ -104,6 +104,6 @@ module _ (es : List Edge) (d : ℕ → ℕ → Option ℕ) (g : Settled es 32 d)
   pub settled_least : (x y : ℕ) → IsBerth x → IsBerth y → Least es x y (d x y)
   settled_least x y hx hy = least_from (Walk es x y) (d x y) (λ n. g.sound x y n hx hy) (λ n w. no_shorter hy w)
 
-pub settled_table : (es : List Edge) (t : List (Option ℕ)) → Settled es 32 (at t) → TableOf es t
+pub settled_table : (es : List Edge) (t : Table) → Settled es 32 (at t) → TableOf es t
 unfolding TableOf
 settled_table es t g = settled_least es (at t) g

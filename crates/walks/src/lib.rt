@@ -3,6 +3,7 @@
 
 mod direct;
 mod edge;
+mod lengths;
 mod rounds;
 mod shorter;
 mod table;

@@ -6,10 +6,7 @@ ghost use Rattle.walks.specs.Tables.{shorter, via};
 pub(crate) fn shorter_of(old: Option<u64>, new: u64) -> u64
     ensures { result ≡ shorter new old }
 {
-    match old {
-        Some(known) => { if new < known { new } else { known } }
-        None => new,
-    }
+    old.map_or(new, |known| known.min(new))
 }
 
 /// The old length, or that of the two parts of a way by a third berth, where that is shorter.
@@ -17,8 +14,5 @@ pub(crate) fn shorter_by_way(first: u64, second: Option<u64>, old: Option<u64>) 
     requires { (first ≤ 2 ^ 62) × ((n : ℕ) → second ≡ Some n → n ≤ 2 ^ 62) }
     ensures { result ≡ via (Some first) second old }
 {
-    match second {
-        Some(rest) => Some(shorter_of(old, first + rest)),
-        None => old,
-    }
+    second.map_or(old, |rest| Some(shorter_of(old, first + rest)))
 }

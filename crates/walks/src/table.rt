@@ -4,12 +4,13 @@ ghost use Rattle.walks.specs.Tables.{TableOf, length_between};
 
 use crate::direct::direct_lengths;
 use crate::edge::Edge;
+use crate::lengths::Rows;
 use crate::rounds::settle;
 
-/// The least length of a walk from each berth to each: that from x to y stands at x * 32 + y.
+/// The least length of a walk from each berth to each.
 #[derive(Drop)]
 pub struct LengthTable {
-    lengths: [Option<u64>; 1024],
+    lengths: Rows,
 }
 
 /// The least lengths of walks over `edges`.
@@ -26,9 +27,6 @@ impl LengthTable {
     pub fn between(&self, from: u8, to: u8) -> Option<u64>
         ensures { result ≡ length_between self.now.lengths from to }
     {
-        if from > 31 || to > 31 {
-            return None;
-        }
-        self.lengths[usize::from(from) * 32 + usize::from(to)]
+        *self.lengths.get(usize::from(from))?.get(usize::from(to))?
     }
 }

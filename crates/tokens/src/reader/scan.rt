@@ -1,9 +1,9 @@
 //! How a reader goes from token to token.
-ghost use Rattle.std.specs.Prelude.{◌≡◌, ◌+◌, ◌-◌, ◌^◌, ◌≤◌, [], ◌∷◌, length, drop, MatchBool};
-ghost use Rattle.tokens.specs.declared.reader.Stage.TheVariants.{Between, Inside, Ended};
+ghost use Rattle.std.specs.Prelude.{◌≡◌, ◌+◌, ◌^◌, ◌<◌, ◌≤◌, [], ◌∷◌, length, MatchOption};
+ghost use Rattle.tokens.specs.declared.reader.Stage.TheVariants.{Between, Ended};
 ghost use Rattle.tokens.specs.Shapes.{CutRightly};
 ghost use Rattle.tokens.specs.Text.{comment, lines};
-ghost use Rattle.tokens.specs.Tokens.{toks, tokens_of, seen, left, Next};
+ghost use Rattle.tokens.specs.Tokens.{toks, tokens_of, line_rest, seen, left};
 
 use crate::reader::{Reader, Stage, Token};
 use crate::text::{bytes_before, trim};
@@ -12,27 +12,11 @@ use crate::text::{bytes_before, trim};
 fn is_comment(line: &[u8]) -> bool
     ensures { result ≡ comment line.now }
 {
-    match line {
-        [] => false,
-        [first, ..] => *first == b'#',
-    }
-}
-
-/// What follows the separator at `end`, or nothing where none stands there.
-fn after(bytes: &[u8], end: usize) -> &[u8]
-    requires { end ≤ length bytes.now }
-    ensures value { result.now ≡ drop (end + 1) bytes.now }
-    ensures len { length result.now ≡ length bytes.now - (end + 1) }
-{
-    if end < bytes.len() {
-        &bytes[end + 1..]
-    } else {
-        &bytes[end..]
-    }
+    line.first() == Some(&b'#')
 }
 
 impl<'a> Reader<'a> {
-    /// A reader of the lines that follow a line.
+    /// A reader of the lines that follow a line. A step of its own, so that what `new` promises of a whole sheet is proved of its call.
     fn after_line(rest: &'a [u8], line: usize) -> Reader<'a>
         requires { line + length rest.now ≤ 2 ^ 63 }
         ensures tokens { left result ≡ toks (line + 1) (lines rest.now) }
@@ -40,10 +24,8 @@ impl<'a> Reader<'a> {
     {
         Reader {
             rest,
-            body: &rest[0..0],
             stage: Stage::Between,
             line,
-            field: 0,
         }
     }
 
@@ -65,61 +47,61 @@ impl<'a> Reader<'a> {
         Token::LineEnd { line: self.line }
     }
 
-    /// The next field of the current line.
-    fn next_field(&mut self) -> Token<'a>
-        requires { self.old.stage ≡ Inside }
-        ensures { left self.old ≡ seen result ∷ left self.new }
+    /// The next field of the current line, of which `body` is left after its field `field`.
+    fn next_field(&mut self, body: &'a [u8], field: usize) -> Token<'a>
+        requires { field + length body.now < 2 ^ 63 }
+        ensures { line_rest self.old.line field body.now self.old.rest.now ≡ seen result ∷ left self.new }
     {
-        let body = self.body;
+        let field = field + 1;
         let end = bytes_before(body, b';');
-        let text = trim(&body[0..end]);
-        self.field += 1;
-        self.body = after(body, end);
-        if end == body.len() {
-            self.stage = Stage::Ended;
-        }
+        self.stage = match body.get(end + 1..) {
+            Some(body) => Stage::Inside { body, field },
+            None => Stage::Ended,
+        };
         Token::Field {
-            text,
+            text: trim(&body[..end]),
             line: self.line,
-            field: self.field,
+            field,
         }
     }
 
-    /// Goes on to the next line that is not skipped; false where there is none.
-    fn next_line(&mut self) -> bool
+    /// Goes on to the next line that is not skipped: its text, or None where there is none.
+    fn next_line(&mut self) -> Option<&'a [u8]>
         requires { self.old.stage ≡ Between }
-        ensures same { left self.new ≡ left self.old }
-        ensures cases { MatchBool result (self.new.stage ≡ Inside) (left self.new ≡ []) }
+        ensures { MatchOption result ((left self.old ≡ []) × (left self.new ≡ [])) (λ body. (length body.now < 2 ^ 63) × (left self.old ≡ line_rest self.new.line 0 body.now self.new.rest.now)) }
     {
         while !self.rest.is_empty() {
             let rest = self.rest;
             let end = bytes_before(rest, b'\n');
-            let line = &rest[0..end];
+            let line = &rest[..end];
             self.line += 1;
-            self.rest = after(rest, end);
+            self.rest = rest.get(end + 1..).unwrap_or(&[]);
             if !is_comment(line) {
-                self.body = line;
-                self.field = 0;
-                self.stage = Stage::Inside;
-                return true;
+                return Some(line);
             }
         }
-        false
+        None
     }
+}
+
+impl<'a> Iterator for Reader<'a> {
+    ghost use Rattle.std.specs.Iterator.{item_count};
+    ghost use Rattle.tokens.specs.Tokens.{left, Next};
+
+    type Item = Token<'a>;
+
+    ghost next_gives = { Next };
+
+    ghost remaining = { item_count left };
 
     /// The next token, or None at the end of the sheet.
-    pub fn next(&mut self) -> Option<Token<'a>>
-        ensures { Next self.old result self.new }
-    {
+    fn next(&mut self) -> Option<Token<'a>> {
         match self.stage {
             Stage::Ended => Some(self.end_line()),
-            Stage::Inside => Some(self.next_field()),
+            Stage::Inside { body, field } => Some(self.next_field(body, field)),
             Stage::Between => {
-                if self.next_line() {
-                    Some(self.next_field())
-                } else {
-                    None
-                }
+                let body = self.next_line()?;
+                Some(self.next_field(body, 0))
             }
         }
     }

@@ -1,11 +1,13 @@
-use Rattle.std.proofs.Common.{vec_items, ap, ◌∙◌}
-use Rattle.distance_report.proofs.Named.{named_more, named_not}
+use Rattle.std.proofs.Common.{◌∙◌, refl, rules, tests}
+use Rattle.std.proofs.lemmas.Result.{IfOk-weaker}
+use Rattle.std.proofs.lemmas.Iterator.{items_from_collect, YieldsList-from_range}
+use Rattle.std.proofs.lemmas.Iterator.Consumers.{YieldsList-from_filter}
+use Rattle.distance_report.specs.Berths.{berth_is_named}
+use Rattle.distance_report.proofs.Named.{named_is}
 use Rattle.distance_report.proofs.berths.berths_of.Goals as goal
-use Rattle.distance_report.proofs.berths.berths_of.Goals.{then-is_named+in_ok-push, else-is_named}
 
-pub loop-berth-preserved : goal.loop-berth-preserved
-loop-berth-preserved c =
-    elim c.if-is_named.branch [
-      | then-is_named+in_ok-push w ↦ named_more c.args.edges.now c.loop-berth.berth (vec_items c.loop-berth.berths) (vec_items c.if-is_named.berths) c.loop-berth.invariant w.if-is_named.ensures (ap vec_items w.berths-is ∙ w.in_ok-push.ensures.items)
-      | else-is_named w ↦ ap vec_items w.berths-is ∙ named_not c.args.edges.now c.loop-berth.berth (vec_items c.loop-berth.berths) c.loop-berth.invariant w.if-is_named.ensures
-    ]
+pub returns : goal.returns
+returns c =
+    IfOk-weaker c.collect.result _ _ (λ berths is. is ∙ named_is c.args.edges.now 32)
+    (items_from_collect _ c.collect.ensures.ran
+    (YieldsList-from_filter _ (berth_is_named c.args.edges.now) (YieldsList-from_range 0 32 32 (cc c.filter.ensures.source) refl) c.filter.ensures.closure (λ x r q k. search (rules, tests))))

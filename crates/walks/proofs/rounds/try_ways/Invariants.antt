@@ -1,5 +1,5 @@
 use Rattle.walks.specs.Tables.{Tried}
 use Rattle.walks.proofs.rounds.try_ways.Given as goal
 
-abbrev pub invariant-loop-from : goal.invariant-loop-from
-invariant-loop-from l = Tried l.by l.from l.initial.lengths l.lengths
+abbrev pub invariant-loop-row : goal.invariant-loop-row
+invariant-loop-row l = Tried l.by l.row-index l.initial.lengths l.lengths

@@ -1,6 +1,5 @@
-use Rattle.std.proofs.Common.{refl}
 use Rattle.tokens.proofs.Shaping.{shaped}
 use Rattle.tokens.proofs.reader.Reader.after_line.Goals as goal
 
-pub returns : goal.returns
-returns c = record { tokens = refl; format = shaped }
+pub returns-clause-format : goal.returns-clause-format
+returns-clause-format c = shaped
