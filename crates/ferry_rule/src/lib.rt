@@ -5,5 +5,6 @@
 mod facts;
 mod making;
 mod rule;
+mod terms;
 
 pub use rule::FerryRule;

@@ -3,6 +3,7 @@ ghost use Rattle.std.specs.Prelude.{◌≡◌, [], IfOk};
 ghost use Rattle.ferry_rule.specs.Making.{Remade};
 
 use crate::rule::FerryRule;
+use crate::terms::Terms;
 use chart::{DrawnChart, FinishedChart};
 use faults::{Fault, Layer, Refusal};
 use std::alloc::{AllocError, Global};
@@ -10,15 +11,15 @@ use std::alloc::{AllocError, Global};
 impl FerryRule {
     /// The built-in rule: a chart without edges, and nothing for lying or for a minute.
     pub fn new(heap: Global) -> Result<FerryRule, AllocError>
-        ensures { IfOk result (λ rule. (rule.chart.edges.items ≡ []) × (rule.least ≡ 0) × (rule.most ≡ 0) × (rule.factor ≡ 0)) }
+        ensures { IfOk result (λ rule. (rule.chart.edges.list.items ≡ []) × (rule.terms.least ≡ 0) × (rule.terms.most ≡ 0) × (rule.terms.factor ≡ 0)) }
     {
         let chart = DrawnChart::new(heap)?.close();
-        Ok(FerryRule {
-            chart,
+        let terms = Terms {
             least: 0,
             most: 0,
             factor: 0,
-        })
+        };
+        Ok(FerryRule { chart, terms })
     }
 
     /// Makes the rule again from a chart and terms. Terms out of range are refused, and leave the rule
@@ -32,19 +33,9 @@ impl FerryRule {
     ) -> Result<(), Fault>
         ensures { Remade self.old chart least most factor result self.new }
     {
-        if least > 600 || most < least || most > 10080 || factor > 10000 {
-            return Err(Fault {
-                refusal: Refusal::OutOfRange,
-                layer: Layer::Planner,
-                place: 0,
-            });
-        }
-        *self = FerryRule {
-            chart,
-            least,
-            most,
-            factor,
-        };
+        let refused = Layer::Planner.fault(Refusal::OutOfRange, 0);
+        let terms = Terms::new(least, most, factor).ok_or(refused)?;
+        *self = FerryRule { chart, terms };
         Ok(())
     }
 }

@@ -12,7 +12,7 @@ use trips::Trip;
 pub(crate) fn harbour_rule(rt: &impl Abort, heap: Global) -> Result<FerryRule, Fail> {
     let drawing = DrawnChart::read(heap, b"1;0;1;10\n2;1;2;15\n3;0;2;30\n")?;
     let mut rule = FerryRule::new(heap)?;
-    assert!(rt; rule.remake(drawing.chart.close(), 5, 40, 100).is_ok());
+    assert_eq!(rt; rule.remake(drawing.chart.close(), 5, 40, 100), Ok(()));
     Ok(rule)
 }
 
@@ -52,11 +52,9 @@ fn no_way_no_link(rt: HostRuntime) -> Result<(), Fail> {
 #[test]
 fn yard_legs(rt: HostRuntime) -> Result<(), Fail> {
     let rule = harbour_rule(&rt, rt.alloc())?;
-    let Some(yard) = rule.yard_cents(&trip(1, 1, 50, 2, 65)) else {
-        return Err(Fail::new("the trip is not served"));
-    };
-    assert_eq!(rt; yard.out, 1000);
-    assert_eq!(rt; yard.home, 2500);
+    let served = trip(1, 1, 50, 2, 65);
+    let yard = rule.yard_cents(&served).ok_or("the trip is not served")?;
+    assert_eq!(rt; (yard.out, yard.home), (1000, 2500));
     assert!(rt; rule.yard_cents(&trip(1, 3, 50, 2, 65)).is_none());
     assert!(rt; rule.yard_cents(&trip(1, 1, 50, 3, 65)).is_none());
     assert!(rt; rule.yard_cents(&trip(1, 0, 50, 0, 65)).is_some());

@@ -18,24 +18,21 @@ fn refuses(
     factor: u16,
 ) -> Result<(), Fail> {
     let chart = DrawnChart::new(heap)?.close();
-    match rule.remake(chart, least, most, factor) {
-        Ok(()) => Err(Fail::new("the rule was made")),
-        Err(fault) => {
-            let shown = fault.to_string(heap)?;
-            assert_eq!(rt; shown.as_str(), "refused 4 planner 0");
-            let first = Trip::new(1, 0, 50, 1, 65);
-            let next = Trip::new(2, 2, 85, 0, 200);
-            assert_eq!(rt; rule.link_cents(&first, &next), Some(1500));
-            Ok(())
-        }
-    }
+    let Err(fault) = rule.remake(chart, least, most, factor) else {
+        return Err(Fail::new("the rule was made"));
+    };
+    assert_eq!(rt; fault.to_string(heap)?.as_str(), "refused 4 planner 0");
+    let first = Trip::new(1, 0, 50, 1, 65);
+    let next = Trip::new(2, 2, 85, 0, 200);
+    assert_eq!(rt; rule.link_cents(&first, &next), Some(1500));
+    Ok(())
 }
 
 /// Sees that the rule is made from these terms.
 fn takes(rt: &impl Abort, heap: Global, least: u16, most: u16, factor: u16) -> Result<(), Fail> {
     let chart = DrawnChart::new(heap)?.close();
     let mut rule = FerryRule::new(heap)?;
-    assert!(rt; rule.remake(chart, least, most, factor).is_ok());
+    assert_eq!(rt; rule.remake(chart, least, most, factor), Ok(()));
     Ok(())
 }
 

@@ -24,23 +24,15 @@ impl Rule for Harbour {
     ghost linkbound = { λ s a b n e. link_bound s.turn a b n e };
 
     fn yard_cents(&self, trip: &Trip) -> Option<YardCents> {
-        if trip.start < 10 {
-            Some(YardCents {
-                out: 500,
-                home: 700,
-            })
-        } else {
-            None
-        }
+        (trip.start < 10).then_some(YardCents {
+            out: 500,
+            home: 700,
+        })
     }
 
     fn link_cents(&self, from: &Trip, to: &Trip) -> Option<u32> {
         let ready = u32::from(from.arrival) + u32::from(self.turn);
-        if from.end == to.start && ready <= u32::from(to.departure) {
-            Some(90)
-        } else {
-            None
-        }
+        (from.end == to.start && ready <= u32::from(to.departure)).then_some(90)
     }
 }
 

@@ -1,6 +1,5 @@
 -- What a crew cap leaves of the rule below it. Assumes nothing.
 use Rattle.std.specs.Prelude.{◌≡◌, ℕ, Bool, true, false, cond, pos, Some, None, Option, int_le}
-use Rattle.std.proofs.Common.{arith}
 use Rattle.trips.specs.declared.trip.Trip.{Trip}
 use Rattle.trips.specs.Gaps.{gap_of}
 
@@ -10,7 +9,7 @@ capped_link cap a b below = cond (int_le (gap_of a b) (pos cap)) below None
 
 kept : (within : Bool) (n : ℕ) (below : Option ℕ) → cond within below None ≡ Some n → below ≡ Some n
 kept true n below e = e
-kept false n below e = let z : ◌≡◌ {A = ℕ} 0 1 = cc in absurd (omega arith)
+kept false n below e = cc
 
 -- a cap only takes links away
 pub capped_from : (cap : ℕ) (a b : Trip) (n : ℕ) (below : Option ℕ) → capped_link cap a b below ≡ Some n → below ≡ Some n

@@ -1,6 +1,7 @@
 -- That a tow rule which could not be made from what the two sheets say was wanting memory. Assumes nothing.
-use Rattle.std.proofs.Common.{◌≡◌, ℕ, List, Some, None, Err, sym, ap, ◌∙◌, arith}
+use Rattle.std.proofs.Common.{◌≡◌, ℕ, List, Some, None, Err, sym, ap, ◌∙◌}
 use Rattle.std.specs.Option.{option_map}
+use Rattle.std.proofs.lemmas.Option.{none-some}
 use Rattle.tow_sheets.specs.declared.links.Link.{Link}
 use Rattle.tow_sheets.specs.declared.charges.Charges.{Charges}
 use Rattle.tow_rule.specs.declared.unmade.Unmade.{Unmade}
@@ -15,5 +16,5 @@ module _ (charges links : List ℕ) (room : ℕ) (c : Charges) (rs : List Link) 
   pub only_memory : (e : Unmade) → Remade old rs c.out c.home (Err e) new → RemadeFrom charges links room old (Err e) new
   only_memory (Refused f) made =
       let none : None ≡ Some f = sym (ap (option_map whole_fault) (sheets_accepted charges links c room rs None sound.charged sound.reads)) ∙ made.0 in
-      absurd (let z : ◌≡◌ {A = ℕ} 0 1 = cc in omega arith)
+      absurd (none-some f none)
   only_memory NoMemory made = ((c, rs, sound), made.1)

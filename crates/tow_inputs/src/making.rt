@@ -15,10 +15,8 @@ fn put_in_force<'a>(
 ) -> Result<Charges, Unmade>
     ensures { InForce charges links.now rule.old result rule.new }
 {
-    match rule.remake(links, charges.out, charges.home) {
-        Ok(()) => Ok(charges),
-        Err(unmade) => Err(unmade),
-    }
+    rule.remake(links, charges.out, charges.home)?;
+    Ok(charges)
 }
 
 /// Makes a tow rule again from what the charges sheet and the links sheet say, and gives the charges.
@@ -32,11 +30,6 @@ pub fn remake_from_sheets<'a>(
 ) -> Result<Charges, Unmade>
     ensures { RemadeFrom charges.now links.now (min 2000 (length table.old)) rule.old result rule.new }
 {
-    match read_sheets(charges, links, table) {
-        Ok(sheets) => {
-            let count = sheets.links;
-            put_in_force(rule, &table[0..count], sheets.charges)
-        }
-        Err(fault) => Err(Unmade::Refused(fault)),
-    }
+    let sheets = read_sheets(charges, links, table)?;
+    put_in_force(rule, &table[..sheets.links], sheets.charges)
 }

@@ -12,11 +12,9 @@ pub fn read_sheets(charges: &[u8], links: &[u8], table: &mut [Link]) -> Result<T
 {
     let charges = read_charges(charges)?;
     let filling = read_links(links, table);
-    match filling.fault {
-        Some(fault) => Err(fault),
-        None => Ok(TowSheets {
-            charges,
-            links: filling.count,
-        }),
-    }
+    let sheets = TowSheets {
+        charges,
+        links: filling.count,
+    };
+    filling.fault.map_or(Ok(sheets), Err)
 }

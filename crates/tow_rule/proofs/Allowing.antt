@@ -2,7 +2,7 @@
 use Rattle.std.proofs.Common.{◌≡◌, ℕ, zero, suc, ◌<◌, Bool, true, false, T, eqb, List, [], ◌∷◌, length, get_or, pos, Some, None, sym, refl, ap, ◌∙◌, subst, arith}
 use lib.Signed.{le_z, le_z_yes}
 use Rattle.std.proofs.lemmas.Bool.{eqb-true, eq-eqb, and_parts, and_from, or_parts, cond-true, cond-false}
-use Rattle.lists.specs.Some.{some_pass}
+use Rattle.std.specs.List.{list_any}
 use Rattle.trips.specs.declared.trip.Trip.{Trip}
 use Rattle.trips.specs.Gaps.{gap_of, gap_lies_within}
 use Rattle.tow_sheets.specs.declared.links.Link.{Link}
@@ -42,7 +42,7 @@ listed_there (x ∷ links) zero l once within is =
     cond-true (is_of_pair l.tail l.head x) (Some x) (listed links l.tail l.head) (and_from _ _ (eq-eqb x.tail l.tail (ap (λ (y : Link). y.tail) same)) (eq-eqb x.head l.head (ap (λ (y : Link). y.head) same)))
     ∙ ap Some same
 listed_there (x ∷ links) (suc k) l once within is =
-    let parts = or_parts (some_pass (λ y. same_pair y x) links) (listed_twice links) once in
+    let parts = or_parts (list_any (λ y. same_pair y x) links) (listed_twice links) once in
     let within_rest : k < length links = omega arith in
     let apart = not_there (λ y. same_pair y x) links k l parts.0 within_rest is in
     cond-false (is_of_pair l.tail l.head x) (Some x) (listed links l.tail l.head) (same_pair_flip x l ∙ apart)

@@ -2,11 +2,12 @@
 use Rattle.std.proofs.Common.{◌≡◌, ℕ, suc, Bool, true, false, cond, ◌&&◌, ◌||◌, eqb, List, [], ◌∷◌, ◌++◌, length, is_some, Some, None, Option, Ordering, sym, refl, ap, ◌∙◌, arith}
 use Rattle.std.proofs.lemmas.Bool.{true≢false, eqb-true, and_parts}
 use Rattle.std.proofs.lemmas.Bool.Decides.{nat_tests}
+use Rattle.std.proofs.lemmas.Option.{none-some}
 use Rattle.std.specs.BTreeMap.{BTreeMap, Updates, get}
 use Rattle.std.specs.Cmp.{unsigned_tied, tied_then}
 use Rattle.std.specs.Ordering.{is_eq, ordering_then, nat_cmp}
 use Rattle.std.specs.Option.{option_map, option_to_list}
-use Rattle.lists.specs.Some.{some_pass}
+use Rattle.std.specs.List.{list_any}
 use Rattle.tow_sheets.specs.declared.links.Link.{Link}
 use Rattle.tow_sheets.specs.Links.{same_pair}
 use Rattle.tow_rule.specs.Indexing.{IndexOf}
@@ -31,9 +32,9 @@ some_placed true p o e = refl
 some_placed false p None e = e
 some_placed false p (Some i) e = e
 
-stands_somewhere : (ls : List Link) (tail head : ℕ) → some_pass (is_of_pair tail head) ls ≡ is_some (place_of ls tail head)
+stands_somewhere : (ls : List Link) (tail head : ℕ) → list_any (is_of_pair tail head) ls ≡ is_some (place_of ls tail head)
 stands_somewhere [] tail head = refl
-stands_somewhere (l ∷ ls) tail head = some_placed (is_of_pair tail head l) (some_pass (is_of_pair tail head) ls) (place_of ls tail head) (stands_somewhere ls tail head)
+stands_somewhere (l ∷ ls) tail head = some_placed (is_of_pair tail head l) (list_any (is_of_pair tail head) ls) (place_of ls tail head) (stands_somewhere ls tail head)
 
 -- where a new pair comes last, only its own place is new
 pushed : (s t : Bool) (n : ℕ) (o : Option ℕ) → (t ≡ true → s ≡ false) → cond s (Some 0) (option_map suc (cond t (Some n) o)) ≡ cond t (Some (suc n)) (cond s (Some 0) (option_map suc o))
@@ -46,9 +47,9 @@ pushed false t n o apart = either t
     either false = refl
 
 first_none : (s : Bool) (o : Option ℕ) → cond s (Some 0) (option_map suc o) ≡ None → (s ≡ false) × (o ≡ None)
-first_none true o e = let z : ◌≡◌ {A = ℕ} 0 1 = cc in absurd (omega arith)
+first_none true o e = absurd (none-some 0 (sym e))
 first_none false None e = (refl, refl)
-first_none false (Some i) e = let z : ◌≡◌ {A = ℕ} 0 1 = cc in absurd (omega arith)
+first_none false (Some i) e = absurd (none-some (suc i) (sym e))
 
 same_numbers : (tail head : ℕ) (x l : Link) → is_of_pair tail head l ≡ true → is_of_pair l.tail l.head x ≡ false → is_of_pair tail head x ≡ false
 same_numbers tail head x l e h =
@@ -71,10 +72,10 @@ nothing (Some i) e = absurd (true≢false e)
 
 module _ (m : BTreeMap (ℕ × ℕ) ℕ) (l : Link) (ls : List Link) (index : IndexOf ls m) where
   -- what is found at the link's pair says whether that stands in the list already
-  pub found_before : (o : Option ℕ) → o ≡ get by_pair m (l.tail, l.head) → some_pass (λ k. same_pair k l) ls ≡ is_some o
+  pub found_before : (o : Option ℕ) → o ≡ get by_pair m (l.tail, l.head) → list_any (λ k. same_pair k l) ls ≡ is_some o
   found_before o found = stands_somewhere ls l.tail l.head ∙ ap is_some (sym (found ∙ same_option _ _ (index.1 l.tail l.head)))
 
-  pub one_more : (n : BTreeMap (ℕ × ℕ) ℕ) (place : ℕ) → length ls ≡ place → some_pass (λ k. same_pair k l) ls ≡ false → Updates by_pair m n (l.tail, l.head) (Some place) → InOrder n → IndexOf (ls ++ l ∷ []) n
+  pub one_more : (n : BTreeMap (ℕ × ℕ) ℕ) (place : ℕ) → length ls ≡ place → list_any (λ k. same_pair k l) ls ≡ false → Updates by_pair m n (l.tail, l.head) (Some place) → InOrder n → IndexOf (ls ++ l ∷ []) n
   one_more n place long new put ordered =
       let none = nothing (place_of ls l.tail l.head) (sym (stands_somewhere ls l.tail l.head) ∙ new) in (
         ordered,

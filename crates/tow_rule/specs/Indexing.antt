@@ -2,7 +2,7 @@
 use Rattle.std.specs.Prelude.{◌≡◌, ℕ, true, false, List, [], ◌∷◌, ◌++◌, length, Ok, Err, Result}
 use Rattle.std.specs.BTreeMap.{BTreeMap}
 use Rattle.faults.specs.declared.refusal.Refusal.TheVariants.{ListedTwice}
-use Rattle.lists.specs.Some.{some_pass}
+use Rattle.std.specs.List.{list_any}
 use Rattle.tow_sheets.specs.declared.links.Link.{Link}
 use Rattle.tow_sheets.specs.Links.{same_pair}
 use Rattle.tow_rule.specs.declared.unmade.Unmade.{Unmade}
@@ -16,8 +16,8 @@ IndexOf links index = InOrder index × Places index links
 
 -- one more link entered into the index of the links before it, unless one of those is of the same pair
 abbrev pub Entered : BTreeMap (ℕ × ℕ) ℕ → Link → ℕ → Result (Unit {0}) Unmade → BTreeMap (ℕ × ℕ) ℕ → Type 0
-Entered old link place (Ok done) new = (ls : List Link) → length ls ≡ place → IndexOf ls old → (some_pass (λ k. same_pair k link) ls ≡ false) × IndexOf (ls ++ link ∷ []) new
-Entered old link place (Err (Refused f)) new = (f ≡ whole_fault ListedTwice) × ((ls : List Link) → IndexOf ls old → some_pass (λ k. same_pair k link) ls ≡ true)
+Entered old link place (Ok done) new = (ls : List Link) → length ls ≡ place → IndexOf ls old → (list_any (λ k. same_pair k link) ls ≡ false) × IndexOf (ls ++ link ∷ []) new
+Entered old link place (Err (Refused f)) new = (f ≡ whole_fault ListedTwice) × ((ls : List Link) → IndexOf ls old → list_any (λ k. same_pair k link) ls ≡ true)
 Entered old link place (Err NoMemory) new = Unit {0}
 
 -- the index of a whole list, unless a pair is listed twice

@@ -15,8 +15,8 @@ Listing links (Err e) = Unmakes (links_refusal links) e
 -- a rule with these links and sums
 pub record MadeFrom (rule : TowRule) (links : List Link) (out home : ℕ) : Type 0 where
   pub links_are : rule.listed.links.now ≡ links
-  pub out_is : rule.out ≡ out
-  pub home_is : rule.home ≡ home
+  pub out_is : rule.yard.out ≡ out
+  pub home_is : rule.yard.home ≡ home
 
 -- a rule made: of these links and sums where there is no reason to refuse them, and then it links trips just as the links allow; and else not made
 abbrev pub Made : List Link → ℕ → ℕ → Result TowRule Unmade → Type 0

@@ -6,15 +6,11 @@ use Rattle.faults.specs.declared.refusal.Refusal.{Refusal}
 use Rattle.faults.specs.declared.refusal.Refusal.TheVariants.{OutOfRange, ListedTwice}
 use Rattle.faults.specs.declared.layer.Layer.TheVariants.{Planner}
 use Rattle.faults.specs.Shown.{fault_at}
-use Rattle.lists.specs.Some.{some_pass}
+use Rattle.std.specs.List.{list_any}
 use Rattle.tow_sheets.specs.declared.links.Link.{Link}
-use Rattle.tow_sheets.specs.Links.{in_range, same_pair}
+use Rattle.tow_sheets.specs.Links.{link_in_range, same_pair}
 use Rattle.tow_rule.specs.declared.unmade.Unmade.{Unmade}
 use Rattle.tow_rule.specs.declared.unmade.Unmade.TheVariants.{Refused, NoMemory}
-
--- the numbers of a link are within the ranges of the links sheet
-abbrev pub link_in_range : Link → Bool
-link_in_range l = in_range l.number l.tail l.head l.lower l.upper l.cost
 
 -- some number of a link is out of its range
 abbrev pub outside : Link → Bool
@@ -23,11 +19,11 @@ outside l = not (link_in_range l)
 -- some pair of trips is listed twice: a link has the same tail and head as one before it
 abbrev pub listed_twice : List Link → Bool
 listed_twice [] = false
-listed_twice (l ∷ ls) = some_pass (λ k. same_pair k l) ls || listed_twice ls
+listed_twice (l ∷ ls) = list_any (λ k. same_pair k l) ls || listed_twice ls
 
 -- why a list of links is refused: a number out of its range anywhere, and only then a pair that is listed twice
 abbrev pub links_refusal : List Link → Option Refusal
-links_refusal links = cond (some_pass outside links) (Some OutOfRange) (cond (listed_twice links) (Some ListedTwice) None)
+links_refusal links = cond (list_any outside links) (Some OutOfRange) (cond (listed_twice links) (Some ListedTwice) None)
 
 -- the sum for the way out or for the way home is above 1,000,000,000 cents
 abbrev pub sums_outside : ℕ → ℕ → Bool

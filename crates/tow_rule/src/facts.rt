@@ -8,7 +8,7 @@ use rules::{Rule, YardCents};
 use trips::Trip;
 
 impl Rule for TowRule<'_> {
-    ghost yard = { λ s t. Some (record { out = s.out; home = s.home }) };
+    ghost yard = { λ s _. Some s.yard };
 
     ghost link = { λ s a b. listed_link s.listed.links.now a b };
 
@@ -19,10 +19,7 @@ impl Rule for TowRule<'_> {
     ghost linkbound = { λ s a b n e. tow_link_bound s a b n e };
 
     fn yard_cents(&self, _trip: &Trip) -> Option<YardCents> {
-        Some(YardCents {
-            out: self.out,
-            home: self.home,
-        })
+        Some(self.yard)
     }
 
     fn link_cents(&self, from: &Trip, to: &Trip) -> Option<u32> {

@@ -1,8 +1,8 @@
 //! The index of a list of links, from the tail and head of each to its place.
 ghost use Rattle.tow_rule.specs.Indexing.{Entered, Indexed};
 
-use crate::unmade::{Unmade, refused};
-use faults::Refusal;
+use crate::unmade::Unmade;
+use faults::{Layer, Refusal};
 use std::alloc::Global;
 use std::collections::BTreeMap;
 use tow_sheets::Link;
@@ -11,14 +11,11 @@ use tow_sheets::Link;
 fn enter(index: &mut BTreeMap<(u16, u16), usize>, link: &Link, place: usize) -> Result<(), Unmade>
     ensures { Entered index.old link.now place result index.new }
 {
-    let Ok(earlier) = index.insert((link.tail, link.head), place) else {
-        return Err(Unmade::NoMemory);
-    };
+    let earlier = index.insert(link.pair(), place)?;
     if earlier.is_some() {
-        Err(refused(Refusal::ListedTwice))
-    } else {
-        Ok(())
+        return Err(Layer::Planner.fault(Refusal::ListedTwice, 0).into());
     }
+    Ok(())
 }
 
 /// The index of a list, unless a pair of trips is listed twice.

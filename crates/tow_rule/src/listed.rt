@@ -1,7 +1,7 @@
 //! A list of links that is looked up by the pair of trips.
 ghost use Rattle.std.specs.Prelude.{◌≡◌, false};
 ghost use Rattle.std.proofs.Props.{props};
-ghost use Rattle.lists.specs.Some.{some_pass};
+ghost use Rattle.std.specs.List.{list_any};
 ghost use Rattle.tow_rule.specs.Places.{InOrder, Places};
 ghost use Rattle.tow_rule.specs.Refusals.{outside, listed_twice};
 
@@ -13,8 +13,9 @@ use tow_sheets::Link;
 #[derive(Drop)]
 pub struct ListedLinks<'a> {
     pub(crate) links: &'a [Link],
+    // It has places and not links, so that the list that is lent stands once.
     pub(crate) index: BTreeMap<(u16, u16), usize>,
-    ghost ranged: { some_pass outside links.now ≡ false },
+    ghost ranged: { list_any outside links.now ≡ false },
     ghost once: { listed_twice links.now ≡ false },
     ghost in_order: { InOrder index } by { Prim.hlevel props },
     ghost places: { Places index links.now },

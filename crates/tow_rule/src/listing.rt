@@ -7,8 +7,8 @@ ghost use Rattle.tow_rule.specs.Making.{Listing};
 use crate::index::index_of;
 use crate::listed::ListedLinks;
 use crate::ranges::some_outside;
-use crate::unmade::{Unmade, refused};
-use faults::Refusal;
+use crate::unmade::Unmade;
+use faults::{Layer, Refusal};
 use std::alloc::Global;
 use std::collections::BTreeMap;
 use tow_sheets::Link;
@@ -31,7 +31,7 @@ impl<'a> ListedLinks<'a> {
         ensures { Listing links.now result }
     {
         if some_outside(links) {
-            return Err(refused(Refusal::OutOfRange));
+            return Err(Layer::Planner.fault(Refusal::OutOfRange, 0).into());
         }
         let index = index_of(heap, links)?;
         Ok(ListedLinks { links, index })
@@ -49,10 +49,7 @@ impl<'a> ListedLinks<'a> {
     pub fn look_up(&self, tail: u16, head: u16) -> Option<Link>
         ensures { result ≡ listed self.now.links.now tail head }
     {
-        match self.place(tail, head) {
-            Some(place) => Some(self.links[place]),
-            None => None,
-        }
+        self.place(tail, head).map(|place| self.links[place])
     }
 
     /// The cents of the link from one trip to another: the cost of the listed link of the two, where
@@ -60,13 +57,7 @@ impl<'a> ListedLinks<'a> {
     pub fn link_cents(&self, from: &Trip, to: &Trip) -> Option<u32>
         ensures { result ≡ listed_link self.now.links.now from.now to.now }
     {
-        let Some(link) = self.look_up(from.number, to.number) else {
-            return None;
-        };
-        if gap_within(from, to, u32::from(link.lower), u32::from(link.upper)) {
-            Some(link.cost)
-        } else {
-            None
-        }
+        let link = self.look_up(from.number, to.number)?;
+        gap_within(from, to, u32::from(link.lower), u32::from(link.upper)).then_some(link.cost)
     }
 }

@@ -4,13 +4,11 @@ ghost use Rattle.tow_rule.specs.Making.{MadeFrom, Made, Remade};
 
 use crate::listed::ListedLinks;
 use crate::rule::TowRule;
-use crate::unmade::{Unmade, refused};
-use faults::Refusal;
+use crate::unmade::Unmade;
+use faults::{Layer, Refusal};
+use rules::YardCents;
 use std::alloc::Global;
-use tow_sheets::Link;
-
-/// The most cents that the way out or the way home may cost.
-const MOST_CENTS: u32 = 1_000_000_000;
+use tow_sheets::{Link, MOST_CENTS};
 
 impl<'a> TowRule<'a> {
     /// The built-in rule: no links, and nothing for the ways out and home.
@@ -20,8 +18,7 @@ impl<'a> TowRule<'a> {
         TowRule {
             heap,
             listed: ListedLinks::none(heap),
-            out: 0,
-            home: 0,
+            yard: YardCents { out: 0, home: 0 },
         }
     }
 
@@ -30,14 +27,13 @@ impl<'a> TowRule<'a> {
         ensures { Made links.now out home result }
     {
         if out > MOST_CENTS || home > MOST_CENTS {
-            return Err(refused(Refusal::OutOfRange));
+            return Err(Layer::Planner.fault(Refusal::OutOfRange, 0).into());
         }
         let listed = ListedLinks::new(heap, links)?;
         Ok(TowRule {
             heap,
             listed,
-            out,
-            home,
+            yard: YardCents { out, home },
         })
     }
 

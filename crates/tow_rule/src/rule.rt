@@ -2,6 +2,7 @@
 ghost use Rattle.std.specs.Prelude.{◌≤◌};
 
 use crate::listed::ListedLinks;
+use rules::YardCents;
 use std::alloc::Global;
 
 /// The tow rule: the listed links, and the cents out from the yard and home to it, which are the
@@ -10,8 +11,7 @@ use std::alloc::Global;
 pub struct TowRule<'a> {
     pub(crate) heap: Global,
     pub(crate) listed: ListedLinks<'a>,
-    pub(crate) out: u32,
-    pub(crate) home: u32,
-    ghost out_bound: { out ≤ 1000000000 },
-    ghost home_bound: { home ≤ 1000000000 },
+    pub(crate) yard: YardCents,
+    ghost out_bound: { yard.out ≤ 1000000000 },
+    ghost home_bound: { yard.home ≤ 1000000000 },
 }

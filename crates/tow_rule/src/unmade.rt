@@ -1,11 +1,12 @@
 //! Why a rule could not be made.
 ghost use Rattle.std.specs.Prelude.{◌≡◌};
-ghost use Rattle.tow_rule.specs.Refusals.{whole_fault};
+ghost use Rattle.tow_rule.specs.declared.unmade.Unmade.TheVariants.{NoMemory, Refused};
 
-use faults::{Fault, Layer, Refusal};
+use faults::Fault;
+use std::alloc::AllocFailed;
 
 /// Why a rule, or the list that it goes by, could not be made.
-#[derive(Clone, Copy)]
+#[derive(Clone, Copy, PartialEq, Eq, Debug)]
 pub enum Unmade {
     /// What it was to be made from is refused.
     Refused(Fault),
@@ -14,13 +15,18 @@ pub enum Unmade {
     NoMemory,
 }
 
-/// The planner's refusal of the whole.
-pub(crate) fn refused(refusal: Refusal) -> Unmade
-    ensures { result ≡ Unmade.Refused (whole_fault refusal) }
-{
-    Unmade::Refused(Fault {
-        refusal,
-        layer: Layer::Planner,
-        place: 0,
-    })
+impl From<Fault> for Unmade {
+    ghost from_gives = { λ fault why. why ≡ Refused fault };
+
+    fn from(fault: Fault) -> Unmade {
+        Unmade::Refused(fault)
+    }
+}
+
+impl<T: Drop> From<AllocFailed<T>> for Unmade {
+    ghost from_gives = { λ _ why. why ≡ NoMemory };
+
+    fn from(_failed: AllocFailed<T>) -> Unmade {
+        Unmade::NoMemory
+    }
 }

@@ -32,7 +32,7 @@ pub(crate) fn two_links() -> [Link; 2] {
 /// The rule of some links, with 500 cents out and 300 home.
 pub(crate) fn rule_of<'a>(rt: &impl Abort, heap: Global, links: &'a [Link]) -> TowRule<'a> {
     let mut rule = TowRule::new(heap);
-    assert!(rt; rule.remake(links, 500, 300).is_ok());
+    assert_eq!(rt; rule.remake(links, 500, 300), Ok(()));
     rule
 }
 
@@ -52,11 +52,9 @@ pub(crate) fn follows<R: Rule>(
 
 /// Sees what the rule charges for the ways out and home.
 pub(crate) fn charges<R: Rule>(rt: &impl Abort, rule: &R, out: u32, home: u32) -> Result<(), Fail> {
-    let Some(yard) = rule.yard_cents(&Trip::new(5, 1, 50, 2, 100)) else {
-        return Err(Fail::new("the trip is not served"));
-    };
-    assert_eq!(rt; yard.out, out);
-    assert_eq!(rt; yard.home, home);
+    let trip = Trip::new(5, 1, 50, 2, 100);
+    let yard = rule.yard_cents(&trip).ok_or("the trip is not served")?;
+    assert_eq!(rt; (yard.out, yard.home), (out, home));
     Ok(())
 }
 
@@ -114,9 +112,7 @@ fn nth_link(n: u16) -> Link {
 
 /// Fills a table with the first, the second and so on of many links.
 fn fill(table: &mut [Link]) {
-    let mut n = 0u16;
-    for link in table.iter_mut() {
-        n = n.saturating_add(1);
+    for (link, n) in table.iter_mut().zip(1u16..) {
         *link = nth_link(n);
     }
 }
@@ -154,10 +150,7 @@ fn looked_up(rt: HostRuntime) -> Result<(), Fail> {
     let Ok(listed) = ListedLinks::new(rt.alloc(), &links) else {
         return Err(Fail::new("the links are not listed"));
     };
-    let Some(link) = listed.look_up(7, 3) else {
-        return Err(Fail::new("the link is not found"));
-    };
-    assert_eq!(rt; link.number, 1);
-    assert!(rt; listed.look_up(3, 7).is_none());
+    assert_eq!(rt; listed.look_up(7, 3), Some(links[0]));
+    assert_eq!(rt; listed.look_up(3, 7), None);
     Ok(())
 }

@@ -28,15 +28,12 @@ fn keeps<'x>(
     shown: &str,
 ) -> Result<(), Fail> {
     let mut rule = rule_of(rt, heap, two);
-    match rule.remake(links, out, home) {
-        Ok(()) => Err(Fail::new("the rule was made")),
-        Err(Unmade::NoMemory) => Err(Fail::new("there was no memory")),
-        Err(Unmade::Refused(fault)) => {
-            assert_eq!(rt; fault.to_string(heap)?.as_str(), shown);
-            follows(rt, &rule, 7, 3, 110, Some(250));
-            charges(rt, &rule, 500, 300)
-        }
-    }
+    let Err(Unmade::Refused(fault)) = rule.remake(links, out, home) else {
+        return Err(Fail::new("the rule was not refused"));
+    };
+    assert_eq!(rt; fault.to_string(heap)?.as_str(), shown);
+    follows(rt, &rule, 7, 3, 110, Some(250));
+    charges(rt, &rule, 500, 300)
 }
 
 /// Sees that no rule is made from these links and sums, and how that shows.
@@ -61,8 +58,7 @@ fn refuses_link(rt: &impl Abort, heap: Global, link: Link) -> Result<(), Fail> {
 fn takes(rt: &impl Abort, heap: Global, link: Link, out: u32, home: u32) {
     let links = [link];
     let mut rule = TowRule::new(heap);
-    let made = rule.remake(&links, out, home).is_ok();
-    assert!(rt; made);
+    assert_eq!(rt; rule.remake(&links, out, home), Ok(()));
 }
 
 #[test]
@@ -164,7 +160,7 @@ fn turned_round(rt: HostRuntime) {
         },
     ];
     let mut rule = TowRule::new(rt.alloc());
-    assert!(rt; rule.remake(&links, 0, 0).is_ok());
+    assert_eq!(rt; rule.remake(&links, 0, 0), Ok(()));
 }
 
 #[test]
@@ -185,7 +181,7 @@ fn made_again(rt: HostRuntime) -> Result<(), Fail> {
         ..LEAST
     }];
     let mut rule = rule_of(&rt, rt.alloc(), &two);
-    assert!(rt; rule.remake(&one, 1, 2).is_ok());
+    assert_eq!(rt; rule.remake(&one, 1, 2), Ok(()));
     follows(&rt, &rule, 7, 3, 100, Some(8));
     follows(&rt, &rule, 7, 3, 110, None);
     charges(&rt, &rule, 1, 2)

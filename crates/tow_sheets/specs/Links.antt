@@ -2,7 +2,7 @@
 use Rattle.std.specs.Prelude.{ℕ, Bool, cond, ◌&&◌, List, length, Some, None, ◌==◌, nat_le, slice_index}
 use Rattle.faults.specs.declared.refusal.Refusal.TheVariants.{ListedTwice}
 use Rattle.faults.specs.declared.layer.Layer.TheVariants.{Links}
-use Rattle.lists.specs.Some.{some_pass}
+use Rattle.std.specs.List.{list_any}
 use Rattle.sheet.specs.Rules.{Rules}
 use Rattle.tow_sheets.specs.declared.links.Link.{Link}
 
@@ -10,6 +10,10 @@ use Rattle.tow_sheets.specs.declared.links.Link.{Link}
 abbrev pub in_range : ℕ → ℕ → ℕ → ℕ → ℕ → ℕ → Bool
 in_range number tail head lower upper cost =
     nat_le number 65535 && (nat_le 1 tail && (nat_le tail 65535 && (nat_le 1 head && (nat_le head 65535 && (nat_le lower upper && (nat_le upper 20160 && nat_le cost 1000000000))))))
+
+-- the numbers of a link are within their ranges
+abbrev pub link_in_range : Link → Bool
+link_in_range l = in_range l.number l.tail l.head l.lower l.upper l.cost
 
 -- the link of a line with six numbers
 abbrev pub link_of : List ℕ → Link
@@ -29,7 +33,7 @@ link_rules = record {
   layer = Links;
   takes = λ n. (n == 6);
   made = λ line ns. cond (length ns == 6 && in_range (slice_index ns 0) (slice_index ns 1) (slice_index ns 2) (slice_index ns 3) (slice_index ns 4) (slice_index ns 5)) (Some (link_of ns)) None;
-  clash = λ rs r. cond (some_pass (λ k. same_pair k r) rs) (Some ListedTwice) None;
+  clash = λ rs r. cond (list_any (λ k. same_pair k r) rs) (Some ListedTwice) None;
   most = 2000;
   least = 0;
 }

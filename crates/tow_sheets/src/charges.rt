@@ -1,13 +1,17 @@
 //! The charges sheet, exactly one line: the cents out from the yard, the cents home, and the fee for
 //! opening a duty.
-ghost use Rattle.tow_sheets.specs.Charges.{charges_rules, Charged};
+ghost use Rattle.std.specs.Prelude.{◌≡◌};
+ghost use Rattle.tow_sheets.specs.Charges.{in_range, charges_rules, Charged};
 ghost use Rattle.std.proofs.Common.{rules};
 
 use faults::{Fault, Layer, Refusal};
 use sheet::{SheetKind, fill_sheet};
 
+/// The most cents that a sum of money may be.
+pub const MOST_CENTS: u32 = 1_000_000_000;
+
 /// What the yard charges, in cents.
-#[derive(Clone, Copy, PartialEq, Eq, Debug)]
+#[derive(Clone, Copy, Default, PartialEq, Eq, Debug)]
 pub struct Charges {
     /// For the way out to a duty's first trip.
     pub out: u32,
@@ -15,6 +19,15 @@ pub struct Charges {
     pub home: u32,
     /// For opening a duty.
     pub fee: u32,
+}
+
+impl Charges {
+    /// Whether the three sums are within their range.
+    fn is_in_range(self) -> bool
+        ensures { result ≡ in_range self.out self.home self.fee }
+    {
+        self.out <= MOST_CENTS && self.home <= MOST_CENTS && self.fee <= MOST_CENTS
+    }
 }
 
 /// The kind of the charges sheet.
@@ -40,14 +53,12 @@ impl SheetKind for ChargesSheet {
         let [out, home, fee] = numbers else {
             return None;
         };
-        if *out > 1_000_000_000 || *home > 1_000_000_000 || *fee > 1_000_000_000 {
-            return None;
-        }
-        Some(Charges {
-            out: *out as u32,
-            home: *home as u32,
-            fee: *fee as u32,
-        })
+        let charges = Charges {
+            out: u32::try_from(*out).ok()?,
+            home: u32::try_from(*home).ok()?,
+            fee: u32::try_from(*fee).ok()?,
+        };
+        charges.is_in_range().then_some(charges)
     }
 
     fn clash(&self, _earlier: &[Charges], _new: &Charges) -> Option<Refusal> {
@@ -67,13 +78,9 @@ impl SheetKind for ChargesSheet {
 pub fn read_charges(sheet: &[u8]) -> Result<Charges, Fault>
     ensures { Charged sheet.now result }
 {
-    let mut table = [Charges {
-        out: 0,
-        home: 0,
-        fee: 0,
-    }];
-    match fill_sheet(&ChargesSheet, sheet, &mut table).fault {
-        Some(fault) => Err(fault),
-        None => Ok(table[0]),
-    }
+    // A sheet is read into memory that the caller lends, here room for the one record.
+    let mut table = [Charges::default()];
+    let filling = fill_sheet(&ChargesSheet, sheet, &mut table);
+    let [charges] = table;
+    filling.fault.map_or(Ok(charges), Err)
 }

@@ -4,5 +4,5 @@
 mod charges;
 mod links;
 
-pub use charges::{Charges, ChargesSheet, read_charges};
-pub use links::{Link, LinksSheet, read_links};
+pub use charges::{Charges, ChargesSheet, MOST_CENTS, read_charges};
+pub use links::{Link, LinksSheet, MOST_LINKS, read_links};

@@ -1,16 +1,18 @@
 //! The links sheet: a line has a link's number, the tail trip, the head trip, the least and the most
 //! minutes between them, and the cost in cents.
 ghost use Rattle.std.specs.Prelude.{◌≡◌};
+ghost use Rattle.std.specs.List.{list_any};
 ghost use Rattle.sheet.specs.Says.{Fills};
-ghost use Rattle.tow_sheets.specs.Links.{in_range, link_rules, same_pair};
+ghost use Rattle.tow_sheets.specs.Links.{link_in_range, link_rules, same_pair};
 ghost use Rattle.std.proofs.Common.{rules};
 
+use crate::charges::MOST_CENTS;
 use faults::{Layer, Refusal};
 use sheet::{Filling, SheetKind, fill_sheet};
 
 /// That one tow may follow another: the head trip after the tail trip, if the gap between them is
 /// from `lower` to `upper` minutes.
-#[derive(Clone, Copy, PartialEq, Eq, Debug)]
+#[derive(Clone, Copy, Default, PartialEq, Eq, Debug)]
 pub struct Link {
     pub number: u16,
     /// The number of the trip that is followed.
@@ -23,29 +25,38 @@ pub struct Link {
     pub cost: u32,
 }
 
+impl Link {
+    /// The numbers of the two trips, the tail's first.
+    pub fn pair(&self) -> (u16, u16)
+        ensures { result ≡ (self.now.tail, self.now.head) }
+    {
+        (self.tail, self.head)
+    }
+
+    /// Whether the numbers of the link are within their ranges.
+    pub fn is_in_range(self) -> bool
+        ensures { result ≡ link_in_range self }
+    {
+        self.tail >= 1
+            && self.head >= 1
+            && self.lower <= self.upper
+            && self.upper <= 20160
+            && self.cost <= MOST_CENTS
+    }
+}
+
+/// The links sheet has at most so many records.
+pub const MOST_LINKS: usize = 2000;
+
 /// The kind of the links sheet: at most 2,000 links, and no pair of trips twice.
 #[derive(Clone, Copy)]
 pub struct LinksSheet;
 
-/// Whether two links are of the same trips.
-fn same_pair(a: &Link, b: &Link) -> bool
-    ensures { result ≡ same_pair a.now b.now }
+/// Whether a link of the same trips is among these.
+fn is_listed(links: &[Link], new: &Link) -> bool
+    ensures { result ≡ list_any (λ k. same_pair k new.now) links.now }
 {
-    a.tail == b.tail && a.head == b.head
-}
-
-/// Whether the six numbers of a line are within their ranges.
-fn in_range(number: u64, tail: u64, head: u64, lower: u64, upper: u64, cost: u64) -> bool
-    ensures { result ≡ in_range number tail head lower upper cost }
-{
-    number <= 65535
-        && tail >= 1
-        && tail <= 65535
-        && head >= 1
-        && head <= 65535
-        && lower <= upper
-        && upper <= 20160
-        && cost <= 1_000_000_000
+    links.iter().any(|link| link.pair() == new.pair())
 }
 
 impl SheetKind for LinksSheet {
@@ -67,30 +78,23 @@ impl SheetKind for LinksSheet {
         let [number, tail, head, lower, upper, cost] = numbers else {
             return None;
         };
-        if !in_range(*number, *tail, *head, *lower, *upper, *cost) {
-            return None;
-        }
-        Some(Link {
-            number: *number as u16,
-            tail: *tail as u16,
-            head: *head as u16,
-            lower: *lower as u16,
-            upper: *upper as u16,
-            cost: *cost as u32,
-        })
+        let link = Link {
+            number: u16::try_from(*number).ok()?,
+            tail: u16::try_from(*tail).ok()?,
+            head: u16::try_from(*head).ok()?,
+            lower: u16::try_from(*lower).ok()?,
+            upper: u16::try_from(*upper).ok()?,
+            cost: u32::try_from(*cost).ok()?,
+        };
+        link.is_in_range().then_some(link)
     }
 
     fn clash(&self, earlier: &[Link], new: &Link) -> Option<Refusal> {
-        for link in earlier {
-            if same_pair(link, new) {
-                return Some(Refusal::ListedTwice);
-            }
-        }
-        None
+        is_listed(earlier, new).then_some(Refusal::ListedTwice)
     }
 
     fn most(&self) -> usize {
-        2000
+        MOST_LINKS
     }
 
     fn least(&self) -> usize {

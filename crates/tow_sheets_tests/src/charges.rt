@@ -2,43 +2,33 @@
 use std::alloc::Global;
 use std::process::Abort;
 use std::test::Fail;
-use tow_sheets::read_charges;
+use tow_sheets::{Charges, read_charges};
 
 /// Sees that the sheet is refused, and how that shows.
 fn refuses(rt: &impl Abort, heap: Global, sheet: &[u8], shown: &str) -> Result<(), Fail> {
-    match read_charges(sheet) {
-        Ok(_) => Err(Fail::new("the sheet was read")),
-        Err(fault) => {
-            assert_eq!(rt; fault.to_string(heap)?.as_str(), shown);
-            Ok(())
-        },
-    }
+    let Err(fault) = read_charges(sheet) else {
+        return Err(Fail::new("the sheet was read"));
+    };
+    assert_eq!(rt; fault.to_string(heap)?.as_str(), shown);
+    Ok(())
 }
 
 /// Sees that the sheet gives these charges.
-fn gives(rt: &impl Abort, sheet: &[u8], out: u32, home: u32, fee: u32) -> Result<(), Fail> {
-    match read_charges(sheet) {
-        Ok(charges) => {
-            assert_eq!(rt; charges.out, out);
-            assert_eq!(rt; charges.home, home);
-            assert_eq!(rt; charges.fee, fee);
-            Ok(())
-        }
-        Err(_) => Err(Fail::new("the sheet was refused")),
-    }
+fn gives(rt: &impl Abort, sheet: &[u8], out: u32, home: u32, fee: u32) {
+    assert_eq!(rt; read_charges(sheet), Ok(Charges { out, home, fee }));
 }
 
 #[test]
-fn one_record(rt: HostRuntime) -> Result<(), Fail> {
-    gives(&rt, b"1000; 1000; 5000\n", 1000, 1000, 5000)?;
+fn one_record(rt: HostRuntime) {
+    gives(&rt, b"1000; 1000; 5000\n", 1000, 1000, 5000);
     gives(
         &rt,
         b"# out; home; fee\n0;1000000000;1000000000",
         0,
         1000000000,
         1000000000,
-    )?;
-    gives(&rt, b"1000000000;0;0", 1000000000, 0, 0)
+    );
+    gives(&rt, b"1000000000;0;0", 1000000000, 0, 0);
 }
 
 #[test]

@@ -15,13 +15,6 @@ const OLD: Link = Link {
     cost: 7,
 };
 
-/// Sees that an entry is as it was before.
-fn is_old(rt: &impl Abort, link: &Link) {
-    assert_eq!(rt; link.number, 7);
-    assert_eq!(rt; link.tail, 7);
-    assert_eq!(rt; link.cost, 7);
-}
-
 /// Sees that so many records are read into a table of three, and how the fault shows.
 fn reads(
     rt: &impl Abort,
@@ -33,19 +26,14 @@ fn reads(
     let mut table = [OLD; 3];
     let filling = read_links(sheet, &mut table);
     assert_eq!(rt; filling.count, count);
-    for place in count..3 {
-        is_old(rt, &table[place]);
+    for link in table.iter().skip(count) {
+        assert_eq!(rt; *link, OLD);
     }
     match filling.fault {
-        None => {
-            assert_eq!(rt; "", shown);
-            Ok(())
-        },
-        Some(fault) => {
-            assert_eq!(rt; fault.to_string(heap)?.as_str(), shown);
-            Ok(())
-        },
+        None => assert_eq!(rt; "", shown),
+        Some(fault) => assert_eq!(rt; fault.to_string(heap)?.as_str(), shown),
     }
+    Ok(())
 }
 
 #[test]
@@ -112,12 +100,15 @@ fn what_a_record_holds(rt: HostRuntime) {
     let mut table = [OLD; 1];
     let filling = read_links(b"1; 5; 9; 10; 60; 700\n", &mut table);
     assert_eq!(rt; filling.count, 1);
-    assert_eq!(rt; table[0].number, 1);
-    assert_eq!(rt; table[0].tail, 5);
-    assert_eq!(rt; table[0].head, 9);
-    assert_eq!(rt; table[0].lower, 10);
-    assert_eq!(rt; table[0].upper, 60);
-    assert_eq!(rt; table[0].cost, 700);
+    let held = Link {
+        number: 1,
+        tail: 5,
+        head: 9,
+        lower: 10,
+        upper: 60,
+        cost: 700,
+    };
+    assert_eq!(rt; table[0], held);
 }
 
 /// A sheet of so many links.

@@ -49,5 +49,5 @@ pub fn gap_within(first: &Trip, next: &Trip, lower: u32, upper: u32) -> bool
     ensures { result ≡ gap_lies_within lower upper first.now next.now }
 {
     let minutes = i64::from(gap(first, next));
-    i64::from(lower) <= minutes && minutes <= i64::from(upper)
+    (i64::from(lower)..=i64::from(upper)).contains(&minutes)
 }
