@@ -1,8 +1,10 @@
 -- The place of a trip in board order. Assumes nothing.
 use Rattle.std.proofs.Common.{◌≡◌, ℕ, suc, ◌+◌, ◌<◌, true, false, not, eqb, List, [], ◌∷◌, ◌++◌, length, get_or, take, drop, filter, sym, refl, ap, ◌∙◌, subst, ⊎_elim, one-add, arith}
+use Rattle.std.specs.List.Sorted.{IsPartitionedBy}
+use Rattle.std.proofs.Math.Nat.{eq-or-lt_of_le}
 use Rattle.std.specs.List.{insert, prefix_len, AllByRecursion as All}
 use Rattle.std.proofs.ByRecursion.{All-get_or, All-from_get_or, all_kept_by, All-weaker, kept_by_passes}
-use Rattle.std.proofs.lemmas.List.{take-append-drop}
+use Rattle.std.proofs.lemmas.List.{get_or_default, take-append-drop}
 use Rattle.std.proofs.lemmas.Bool.{cases_Bool, cond-true, cond-false, eq-eqb, not_from_true, not_from_false, or_left, or_right}
 use Rattle.std.proofs.lemmas.Bool.Decides.{nat_tests}
 use Rattle.trips.specs.declared.trip.Trip.{Trip}
@@ -29,6 +31,16 @@ turned a b h d = grind (arith, nat_tests)
 
 onward : (a b c : Trip) → before a b ≡ true → before b c ≡ true → before a c ≡ true
 onward a b c h k = grind (arith, nat_tests)
+
+-- in board order no trip that stands before t comes after one that does not
+pub parted : (xs : List Trip) (t : Trip) → InOrder xs → IsPartitionedBy (λ x. before x t) xs
+parted xs t ordered i j d le lt h =
+    ⊎_elim
+    (λ e. subst (λ k. before (get_or xs k d) t ≡ true) (sym e) h)
+    (λ l.
+    let step : before (get_or xs i d) (get_or xs j d) ≡ true = rw (get_or_default xs i d no_trip (omega arith), get_or_default xs j d no_trip lt) (ordered i j (l, lt)) in
+    onward (get_or xs i d) (get_or xs j d) t step h)
+    (eq-or-lt_of_le le)
 
 -- the trips before t are the front of the list, and those after it are the rest
 record Split (xs : List Trip) (t : Trip) : Type 0 where

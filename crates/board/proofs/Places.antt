@@ -1,28 +1,30 @@
 -- What a look along the trips tells. Assumes nothing.
-use Rattle.std.proofs.Common.{◌≡◌, ℕ, zero, suc, ◌+◌, ◌<◌, true, false, ◌||◌, eqb, List, [], ◌∷◌, length, get_or, drop, is_some, Some, None, Option, sym, ap, ◌∙◌, arith, MatchOption}
-use Rattle.std.specs.List.{AllByRecursion as All}
-use Rattle.std.proofs.lemmas.List.{at_drop_more}
-use Rattle.std.proofs.lemmas.Bool.{eq-eqb, or_left, or_right, or_parts}
+use Rattle.std.proofs.Common.{◌≡◌, ℕ, ◌<◌, Bool, true, false, eqb, List, [], ◌∷◌, length, get_or, cond, Some, None, Option, sym, refl, arith, MatchOption}
+use Rattle.std.specs.List.{position, position_or_len, AllByRecursion as All}
+use Rattle.std.proofs.lemmas.List.Folds.{list_any_at, list_any_none}
+use Rattle.std.proofs.lemmas.List.Quantifiers.{position-Some}
+use Rattle.std.proofs.lemmas.List.Sums.{fails_before_first}
+use Rattle.std.proofs.lemmas.Bool.{eq-eqb, eqb-true, ltb-false, or_parts}
 use Rattle.trips.specs.declared.trip.Trip.{Trip}
 use Rattle.trips.specs.Default.{no_trip}
 use Rattle.board.specs.Lists.{stands}
 
--- where a trip has another number, the number stands among the rest or nowhere
-pub stands_on : (ts : List Trip) (n i : ℕ) → i < length ts → eqb (get_or ts i no_trip).number n ≡ false → stands (drop i ts) n ≡ stands (drop (i + 1) ts) n
-stands_on ts n i lt other = at_drop_more (λ l. stands l n) ts i no_trip lt ∙ ap (λ b. b || stands (drop (i + 1) ts) n) other
-
 -- a number that is found stands
 pub stands_at : (ts : List Trip) (n i : ℕ) → i < length ts → (get_or ts i no_trip).number ≡ n → stands ts n ≡ true
-stands_at [] n i lt is = absurd (omega arith)
-stands_at (t ∷ ts) n zero lt is = or_left (eqb t.number n) (stands ts n) (eq-eqb _ _ is)
-stands_at (t ∷ ts) n (suc i) lt is = or_right (eqb t.number n) (stands ts n) (stands_at ts n i (omega arith) is)
+stands_at ts n i lt is = list_any_at (λ t. eqb t.number n) ts i no_trip lt (eq-eqb _ _ is)
 
 -- where the number does not stand, each trip has another
 pub others : (ts : List Trip) (n : ℕ) → stands ts n ≡ false → All (λ x. eqb x.number n ≡ false) ts
 others [] n e = tt
 others (t ∷ ts) n e = let p = or_parts (eqb t.number n) (stands ts n) e in (p.0, others ts n p.1)
 
--- whether a place is found is whether the number stands
-pub found_stands : (ts : List Trip) (n : ℕ) (o : Option ℕ) → MatchOption o (stands ts n ≡ false) (λ i. (i < length ts) × ((get_or ts i no_trip).number ≡ n)) → is_some o ≡ stands ts n
-found_stands ts n None h = sym h
-found_stands ts n (Some i) h = sym (stands_at ts n i h.0 h.1)
+not_within : (b : Bool) (i : ℕ) → cond b (Some i) None ≡ None → b ≡ false
+not_within true i e = cc
+not_within false i e = refl
+
+-- the place of the first trip with the number, or that the number does not stand
+pub found : (ts : List Trip) (n : ℕ) (o : Option ℕ) → o ≡ position (λ t. eqb t.number n) ts → MatchOption o (stands ts n ≡ false) (λ i. (i < length ts) × ((get_or ts i no_trip).number ≡ n))
+found ts n None e =
+    let past = ltb-false _ _ (not_within _ (position_or_len (λ t. eqb t.number n) ts) (sym e)) in
+    list_any_none (λ t. eqb t.number n) ts (λ k d lt. fails_before_first (λ t. eqb t.number n) ts k d (omega arith))
+found ts n (Some i) e = let p = position-Some (λ t. eqb t.number n) ts i no_trip (sym e) in (p.0, eqb-true _ _ p.1)

@@ -1,5 +1,5 @@
 -- What is known where no reason to refuse holds. Assumes nothing.
-use Rattle.std.proofs.Common.{◌≡◌, ℕ, ◌<◌, Bool, true, false, cond, not, ◌&&◌, leb, List, length, is_some, Some, None, Option, refl, arith}
+use Rattle.std.proofs.Common.{◌≡◌, ℕ, ◌<◌, Bool, true, false, cond, not, ◌&&◌, leb, List, length, is_some, Some, None, Option, refl}
 use Rattle.std.proofs.lemmas.Bool.{and_from, cond-false, leb-false, not-false, not_from_true}
 use Rattle.faults.specs.declared.refusal.Refusal.{Refusal}
 use Rattle.faults.specs.declared.refusal.Refusal.TheVariants.{TripOutOfRange, NotBeforeArrival, NumberStands, NotServed, BoardFull, NumberDoesNotStand}
@@ -10,7 +10,7 @@ use Rattle.board.specs.Lists.{stands}
 use Rattle.board.specs.Refusals.{add_refusal, withdraw_refusal}
 
 passed : (b : Bool) (r : Refusal) (rest : Option Refusal) → cond b (Some r) rest ≡ None → (b ≡ false) × (rest ≡ None)
-passed true r rest e = let z : ◌≡◌ {A = ℕ} 0 1 = cc in absurd (omega arith)
+passed true r rest e = cc
 passed false r rest e = (refl, e)
 
 -- of a trip that is not refused

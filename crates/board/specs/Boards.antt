@@ -1,4 +1,4 @@
--- What a board shows. Assumes nothing.
+-- What a board shows: two functions and no model, since a call mostly changes one of them and the crates above name each alone. Assumes nothing.
 use Rattle.std.specs.Prelude.{ℕ, List, vec_items}
 use Rattle.trips.specs.declared.trip.Trip.{Trip}
 use Rattle.board.specs.declared.board.Board.{Board}

@@ -1,12 +1,12 @@
 -- The lists of trips that calls lead to. Assumes nothing.
-use Rattle.std.specs.Prelude.{ℕ, Bool, false, not, ◌||◌, List, [], ◌∷◌, ◌++◌, filter, ◌==◌}
+use Rattle.std.specs.Prelude.{ℕ, Bool, not, List, ◌∷◌, ◌++◌, filter, ◌==◌}
+use Rattle.std.specs.List.{list_any}
 use Rattle.trips.specs.declared.trip.Trip.{Trip}
 use Rattle.board.specs.Order.{before}
 
 -- whether a trip with the number is among the trips
 abbrev pub stands : List Trip → ℕ → Bool
-stands [] n = false
-stands (t ∷ ts) n = t.number == n || stands ts n
+stands ts n = list_any (λ t. t.number == n) ts
 
 -- the trips with one more at its place: after all that stand before it, before all that it stands before
 abbrev pub added : List Trip → Trip → List Trip

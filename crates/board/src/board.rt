@@ -1,7 +1,6 @@
 //! What a board holds, and what holds of every board.
-ghost use Rattle.std.specs.Prelude.{◌≤◌, vec_len, vec_capacity};
-ghost use Rattle.board.specs.Order.{InOrder, NumbersDiffer};
-ghost use Rattle.board.specs.Ranges.{AllSound};
+ghost use Rattle.std.specs.Prelude.{◌≤◌, vec_capacity};
+ghost use Rattle.board.specs.Standing.{Standing};
 
 use trips::Trip;
 
@@ -9,6 +8,12 @@ mod calls;
 mod places;
 mod reasons;
 mod view;
+
+/// How many trips may stand.
+pub const MOST_TRIPS: usize = 200;
+
+/// How many duties the trips may be given at most.
+const MOST_DUTIES: u16 = 200;
 
 /// The trips that stand, in board order, and the limit on the number of duties. Room for 200 trips
 /// is taken when the board is made, so that no call on it asks for memory.
@@ -18,10 +23,7 @@ pub struct Board {
     trips: Vec<Trip>,
     /// The most duties that the trips may take.
     limit: u16,
-    ghost few: { vec_len trips ≤ 200 },
+    ghost standing: { Standing trips.items },
     ghost room: { 200 ≤ vec_capacity trips },
     ghost limited: { limit ≤ 200 },
-    ghost ordered: { InOrder trips.items },
-    ghost differ: { NumbersDiffer trips.items },
-    ghost sound: { AllSound trips.items },
 }

@@ -5,5 +5,5 @@
 mod board;
 mod fresh;
 
-pub use board::Board;
+pub use board::{Board, MOST_TRIPS};
 pub use fresh::NewBoard;

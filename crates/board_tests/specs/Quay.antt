@@ -9,7 +9,7 @@ abbrev pub quay_yard : Trip → Option YardCents
 quay_yard t = cond (t.start == 9) None (Some (record { out = 0; home = 0 }))
 
 priced : (test : Bool) (x y : YardCents) → cond test None (Some x) ≡ Some y → x ≡ y
-priced true x y e = let z : ◌≡◌ {A = ℕ} 0 1 = cc in absurd (omega arith)
+priced true x y e = cc
 priced false x y e = cc
 
 pub yard_bound : (t : Trip) (y : YardCents) → quay_yard t ≡ Some y → (y.out ≤ 1000000000) × (y.home ≤ 1000000000)
@@ -17,4 +17,4 @@ yard_bound t y e = subst (λ z. (z.out ≤ 1000000000) × (z.home ≤ 1000000000
 
 -- what holds of the links of a rule that has none
 pub no_link : {P : Type 0} (n : ℕ) → None ≡ Some n → P
-no_link n e = let z : ◌≡◌ {A = ℕ} 0 1 = cc in absurd (omega arith)
+no_link n e = cc

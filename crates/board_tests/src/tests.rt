@@ -45,16 +45,12 @@ fn expect(
     answer: Result<(), Fault>,
     text: &str,
 ) -> Result<(), Fail> {
-    match answer {
-        Ok(()) => {
-            assert_eq!(rt; "", text);
-            Ok(())
-        },
-        Err(fault) => {
-            assert_eq!(rt; format!(in heap; "{fault}")?.as_str(), text);
-            Ok(())
-        },
-    }
+    let shown = match answer {
+        Ok(()) => String::new(heap),
+        Err(fault) => format!(in heap; "{fault}")?,
+    };
+    assert_eq!(rt; shown.as_str(), text);
+    Ok(())
 }
 
 /// A board that is tried, with the memory for what it answers.
@@ -146,11 +142,9 @@ fn trips_stand_by_departure_and_number(rt: HostRuntime) -> Result<(), Fail> {
     trial.add(&rt, brief(2, 20), "")?;
     trial.add(&rt, brief(1, 30), "")?;
     trial.withdraw(&rt, 3, "")?;
-    let trips = trial.board.trips();
-    assert!(rt; trips.len() == 3);
     assert_eq!(rt;
-        (trips[0].number, trips[1].number, trips[2].number),
-        (9, 2, 1)
+        trial.board.trips(),
+        [brief(9, 10), brief(2, 20), brief(1, 30)].as_slice()
     );
     Ok(())
 }

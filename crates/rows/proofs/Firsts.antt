@@ -1,13 +1,9 @@
 -- The order of rows: the first place that differs decides, and rows of one length of which neither is below the other are the same. Assumes nothing.
-use Rattle.std.proofs.Common.{◌≡◌, ℕ, zero, suc, ◌<◌, Bool, true, false, cond, List, [], ◌∷◌, length, get_or, ℤ, pos, ◌<ℤ◌, Decides, Ordering, Less, Equal, Greater, sym, refl, ap, ◌∙◌, subst, arith}
+use Rattle.std.proofs.Common.{◌≡◌, ℕ, zero, suc, ◌<◌, Bool, true, false, cond, List, [], ◌∷◌, length, get_or, ℤ, pos, ◌<ℤ◌, Decides, sym, refl, ap, ◌∙◌, arith}
 use borrow.Author.Differences.{ints}
 use lib.Signed.{lt_z}
-use Rattle.std.specs.Ordering.{is_eq}
-use Rattle.rows.specs.Places.{below, Standing}
+use Rattle.rows.specs.Places.{below}
 use Rattle.rows.specs.Laws.{LessFirstAt}
-
-true_false : true ≡ false → ⊥
-true_false e = let z : ◌≡◌ {A = ℕ} 0 1 = cc in omega arith
 
 -- ---- the first place that differs
 
@@ -23,11 +19,11 @@ later x y xs ys e (k, f) =
 first_step : (x y : ℤ) (xs ys : List ℤ) → (below xs ys ≡ true → (k : ℕ) × LessFirstAt xs ys k) → (t u : Bool) → lt_z x y ≡ t → lt_z y x ≡ u → cond t true (cond u false (below xs ys)) ≡ true → (k : ℕ) × LessFirstAt (x ∷ xs) (y ∷ ys) k
 first_step x y xs ys more true u e f h =
     (0, record { within = omega arith; alike = λ i l. absurd (omega arith); less = omega (arith, ints) })
-first_step x y xs ys more false true e f h = absurd (true_false (sym h))
+first_step x y xs ys more false true e f h = cc
 first_step x y xs ys more false false e f h = later x y xs ys (omega (arith, ints)) (more h)
 
 first_from_below : (xs ys : List ℤ) → length xs ≡ length ys → below xs ys ≡ true → (k : ℕ) × LessFirstAt xs ys k
-first_from_below [] [] e h = absurd (true_false (sym h))
+first_from_below [] [] e h = cc
 first_from_below [] (y ∷ ys) e h = absurd (omega arith)
 first_from_below (x ∷ xs) [] e h = absurd (omega arith)
 first_from_below (x ∷ xs) (y ∷ ys) e h = first_step x y xs ys (first_from_below xs ys (omega arith)) (lt_z x y) (lt_z y x) refl refl h
@@ -54,8 +50,8 @@ first_decides xs ys e = (first_from_below xs ys e, λ f. below_from_first xs ys 
 -- ---- rows of which neither is below the other
 
 same_step : (x y : ℤ) (xs ys : List ℤ) → (below xs ys ≡ false → below ys xs ≡ false → xs ≡ ys) → (t u : Bool) → lt_z x y ≡ t → lt_z y x ≡ u → cond t true (cond u false (below xs ys)) ≡ false → cond u true (cond t false (below ys xs)) ≡ false → (x ∷ xs) ≡ (y ∷ ys)
-same_step x y xs ys i true u e f h k = absurd (true_false h)
-same_step x y xs ys i false true e f h k = absurd (true_false k)
+same_step x y xs ys i true u e f h k = cc
+same_step x y xs ys i false true e f h k = cc
 same_step x y xs ys i false false e f h k =
     let same : x ≡ y = omega (arith, ints) in
     let rest : xs ≡ ys = i h k in
@@ -66,17 +62,3 @@ same_from_below [] [] e h k = refl
 same_from_below [] (y ∷ ys) e h k = absurd (omega arith)
 same_from_below (x ∷ xs) [] e h k = absurd (omega arith)
 same_from_below (x ∷ xs) (y ∷ ys) e h k = same_step x y xs ys (same_from_below xs ys (omega arith)) (lt_z x y) (lt_z y x) refl refl h k
-
--- no row is below itself
-below_same : (xs : List ℤ) → below xs xs ≡ false
-below_same [] = refl
-below_same (x ∷ xs) = by_tests x x (below xs xs) false false (sym (omega (arith, ints))) (sym (omega (arith, ints))) ∙ below_same xs
-
-never : (xs ys : List ℤ) → below xs ys ≡ true → xs ≡ ys → ⊥
-never xs ys h e = true_false (sym (subst (λ zs. below zs ys ≡ true) e h) ∙ below_same ys)
-
--- an answer `Equal` says that the rows are the same
-pub equal_from_standing : (xs ys : List ℤ) (o : Ordering) → Standing xs ys o → Decides (is_eq o) (xs ≡ ys)
-equal_from_standing xs ys Less h = (λ e. absurd (true_false (sym e)), λ e. absurd (never xs ys h e))
-equal_from_standing xs ys Equal h = (λ _. h, λ _. refl)
-equal_from_standing xs ys Greater h = (λ e. absurd (true_false (sym e)), λ e. absurd (never ys xs h (sym e)))

@@ -2,8 +2,6 @@
 //! Sums, opposites and whole multiples go place by place, and every place stays within ±10^17.
 #![tactic(auto)]
 
-mod equal;
-mod order;
 mod places;
 mod row;
 mod rowed;

@@ -3,7 +3,7 @@ ghost use Rattle.std.specs.Prelude.{◌≡◌, ℕ, List, length, replicate, ℤ
 ghost use Rattle.std.specs.List.{slice_get};
 ghost use Rattle.rows.specs.Places.{added, opposite, scaled, kept, below};
 
-use crate::places::{at, opposites, precedes, products, sums};
+use crate::places::{opposites, products, sums};
 use crate::row::Row;
 
 /// A value that stands for a row.
@@ -48,6 +48,10 @@ pub trait Rowed: Copy {
     fn place(self, i: usize) -> Option<i64>
         ensures { result ≡ slice_get (row self) i };
 
+    /// The places, the first in front.
+    fn places(&self) -> &[i64]
+        ensures { result.now ≡ row self.now };
+
     /// Whether this row comes before the other: the first place that differs decides.
     fn is_below(self, other: Self) -> bool
         ensures { result ≡ below (row self) (row other) };
@@ -89,10 +93,15 @@ impl<const N: usize> Rowed for Row<N> {
     }
 
     fn place(self, i: usize) -> Option<i64> {
-        at(&self.places, i)
+        self.places.get(i).copied()
     }
 
+    fn places(&self) -> &[i64] {
+        &self.places
+    }
+
+    #[tactic(auto, using(crate::proofs::Comparisons::below_from_lt))]
     fn is_below(self, other: Row<N>) -> bool {
-        precedes(&self.places, &other.places)
+        self < other
     }
 }

@@ -14,6 +14,8 @@ pub struct Cents;
 impl Tariff for Cents {
     const PLACES: usize = 1;
 
+    ghost PLACES = { 1 };
+
     type Value = Row<{ Cents::PLACES }>;
 
     ghost opens = { λ _ fee cents. pos (capped fee + capped cents) ∷ [] };
@@ -22,29 +24,7 @@ impl Tariff for Cents {
 
     ghost homes = { λ _ cents. pos (capped cents) ∷ [] };
 
-    ghost few_places = { Prim.search rules };
-
-    ghost opens_long = { Prim.search rules };
-
-    ghost links_long = { Prim.search rules };
-
-    ghost homes_long = { Prim.search rules };
-
-    ghost opens_near = { Prim.search rules };
-
-    ghost links_near = { Prim.search rules };
-
-    ghost homes_near = { Prim.search rules };
-
-    ghost opens_capped = { Prim.search rules };
-
-    ghost links_capped = { Prim.search rules };
-
-    ghost homes_capped = { Prim.search rules };
-
-    fn row_length() -> usize {
-        Self::PLACES
-    }
+    ghost laws = { Prim.search rules };
 
     fn opening(&self, fee: u32, cents: u32) -> Row<1> {
         Row::new([counted(fee) + counted(cents)])

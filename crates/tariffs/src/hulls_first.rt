@@ -14,6 +14,8 @@ pub struct HullsFirst;
 impl Tariff for HullsFirst {
     const PLACES: usize = 2;
 
+    ghost PLACES = { 2 };
+
     type Value = Row<{ HullsFirst::PLACES }>;
 
     ghost opens = { λ _ fee cents. pos 1 ∷ pos (capped fee + capped cents) ∷ [] };
@@ -22,29 +24,7 @@ impl Tariff for HullsFirst {
 
     ghost homes = { λ _ cents. pos 0 ∷ pos (capped cents) ∷ [] };
 
-    ghost few_places = { Prim.search rules };
-
-    ghost opens_long = { Prim.search rules };
-
-    ghost links_long = { Prim.search rules };
-
-    ghost homes_long = { Prim.search rules };
-
-    ghost opens_near = { Prim.search rules };
-
-    ghost links_near = { Prim.search rules };
-
-    ghost homes_near = { Prim.search rules };
-
-    ghost opens_capped = { Prim.search rules };
-
-    ghost links_capped = { Prim.search rules };
-
-    ghost homes_capped = { Prim.search rules };
-
-    fn row_length() -> usize {
-        Self::PLACES
-    }
+    ghost laws = { Prim.search rules };
 
     fn opening(&self, fee: u32, cents: u32) -> Row<2> {
         Row::new([1, counted(fee) + counted(cents)])

@@ -1,7 +1,6 @@
 //! What every tariff shows.
-ghost use Rattle.std.specs.Prelude.{◌≡◌, ℕ, ◌≤◌, List, length, ℤ};
-ghost use Rattle.rows.specs.Places.{Small};
-ghost use Rattle.tariffs.specs.Charges.{capped};
+ghost use Rattle.std.specs.Prelude.{◌≡◌, ℕ, List, ℤ};
+ghost use Rattle.tariffs.specs.Laws.{TariffLaws};
 
 use rows::Rowed;
 
@@ -11,6 +10,9 @@ use rows::Rowed;
 pub trait Tariff {
     /// How many places the rows have, 1 to 4.
     const PLACES: usize;
+
+    /// The same number, for the laws.
+    ghost PLACES: { ℕ };
 
     /// What stands for a row.
     type Value: Rowed;
@@ -24,9 +26,12 @@ pub trait Tariff {
     /// The row for coming home, from its cents.
     ghost homes: { Self → ℕ → List ℤ };
 
-    /// How many places the rows have: each tariff answers with its `PLACES`.
+    /// How many places the rows have: `PLACES`.
     fn row_length() -> usize
-        ensures { result ≡ Self.Value.Rowed.count };
+        ensures { result ≡ Self.Value.Rowed.count }
+    {
+        Self::PLACES
+    }
 
     /// What it is worth to open a duty.
     fn opening(&self, fee: u32, cents: u32) -> Self::Value
@@ -40,23 +45,6 @@ pub trait Tariff {
     fn home(&self, cents: u32) -> Self::Value
         ensures { Self.Value.Rowed.row result ≡ homes self.now cents };
 
-    ghost few_places: { (1 ≤ Self.Value.Rowed.count) × (Self.Value.Rowed.count ≤ 4) };
-
-    ghost opens_long: { (t : Self) (fee cents : ℕ) → length (opens t fee cents) ≡ Self.Value.Rowed.count };
-
-    ghost links_long: { (t : Self) (cents : ℕ) → length (links t cents) ≡ Self.Value.Rowed.count };
-
-    ghost homes_long: { (t : Self) (cents : ℕ) → length (homes t cents) ≡ Self.Value.Rowed.count };
-
-    ghost opens_near: { (t : Self) (fee cents : ℕ) → Small 2000000000 (opens t fee cents) };
-
-    ghost links_near: { (t : Self) (cents : ℕ) → Small 2000000000 (links t cents) };
-
-    ghost homes_near: { (t : Self) (cents : ℕ) → Small 2000000000 (homes t cents) };
-
-    ghost opens_capped: { (t : Self) (fee cents : ℕ) → opens t fee cents ≡ opens t (capped fee) (capped cents) };
-
-    ghost links_capped: { (t : Self) (cents : ℕ) → links t cents ≡ links t (capped cents) };
-
-    ghost homes_capped: { (t : Self) (cents : ℕ) → homes t cents ≡ homes t (capped cents) };
+    /// What holds of the answers and of the number of places.
+    ghost laws: { TariffLaws PLACES Self.Value.Rowed.count opens links homes };
 }

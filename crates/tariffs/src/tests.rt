@@ -11,6 +11,8 @@ struct PaidBack;
 impl Tariff for PaidBack {
     const PLACES: usize = 4;
 
+    ghost PLACES = { 4 };
+
     type Value = Row<{ PaidBack::PLACES }>;
 
     ghost opens = { λ _ fee cents. neg_ℤ (pos (capped fee)) ∷ pos (capped cents) ∷ pos 0 ∷ pos 1 ∷ [] };
@@ -19,29 +21,7 @@ impl Tariff for PaidBack {
 
     ghost homes = { λ _ cents. pos 0 ∷ neg_ℤ (pos (capped cents)) ∷ pos 0 ∷ pos 0 ∷ [] };
 
-    ghost few_places = { Prim.search rules };
-
-    ghost opens_long = { Prim.search rules };
-
-    ghost links_long = { Prim.search rules };
-
-    ghost homes_long = { Prim.search rules };
-
-    ghost opens_near = { Prim.search rules };
-
-    ghost links_near = { Prim.search rules };
-
-    ghost homes_near = { Prim.search rules };
-
-    ghost opens_capped = { Prim.search rules };
-
-    ghost links_capped = { Prim.search rules };
-
-    ghost homes_capped = { Prim.search rules };
-
-    fn row_length() -> usize {
-        Self::PLACES
-    }
+    ghost laws = { Prim.search rules };
 
     fn opening(&self, fee: u32, cents: u32) -> Row<4> {
         Row::new([-counted(fee), counted(cents), 0, 1])

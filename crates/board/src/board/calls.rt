@@ -8,14 +8,16 @@ ghost use Rattle.board.specs.Exact.{JoinedBy, Only, RidOf, Undone};
 ghost use Rattle.board.specs.Refusals.{add_refusal, after_add, after_set_limit, after_withdraw, answer, limit_refusal, withdraw_refusal};
 ghost use Rattle.board.specs.Standing.{AllServed};
 
-use super::Board;
 use super::places::{find, place};
-use super::reasons::{refused, why_not_added};
-use faults::{Fault, Refusal};
+use super::reasons::why_not_added;
+use super::{Board, MOST_DUTIES};
+use faults::{Fault, Layer, Refusal};
 use rules::Rule;
 use trips::Trip;
 
 impl Board {
+    // That a call leaves the limit, or the trips, is said of each call that does: others alter them.
+
     /// Adds a trip at its place in board order, or refuses it and changes nothing.
     pub fn add<R: Rule>(&mut self, rule: &R, trip: Trip) -> Result<(), Fault>
         ensures answer { result ≡ answer (add_refusal (R.Rule.yard rule.now) (trips_of self.old) trip) trip.number }
@@ -25,11 +27,11 @@ impl Board {
         ensures undone { is_ok result ≡ true → Undone (trips_of self.new) trip.number (trips_of self.old) }
         ensures served { AllServed (R.Rule.yard rule.now) (trips_of self.old) → AllServed (R.Rule.yard rule.now) (trips_of self.new) }
     {
-        if let Some(refusal) = why_not_added(rule, self.trips.as_slice(), &trip) {
-            return Err(refused(refusal, trip.number));
+        if let Some(refusal) = why_not_added(rule, &self.trips, &trip) {
+            return Err(Layer::Board.fault(refusal, usize::from(trip.number)));
         }
-        let at = place(self.trips.as_slice(), &trip);
-        let _ = self.trips.insert(at, trip);
+        let at = place(&self.trips, &trip);
+        self.trips.insert(at, trip).unwrap();
         Ok(())
     }
 
@@ -41,8 +43,9 @@ impl Board {
         ensures exact { is_ok result ≡ true → Only (RidOf (trips_of self.old) number) (trips_of self.new) }
         ensures served { (yard : Trip → Maybe YardCents) → AllServed yard (trips_of self.old) → AllServed yard (trips_of self.new) }
     {
-        let Some(at) = find(self.trips.as_slice(), number) else {
-            return Err(refused(Refusal::NumberDoesNotStand, number));
+        // A `let else`, so that a fault is made only where it is told.
+        let Some(at) = find(&self.trips, number) else {
+            return Err(Layer::Board.fault(Refusal::NumberDoesNotStand, usize::from(number)));
         };
         self.take_off(at);
         Ok(())
@@ -54,7 +57,7 @@ impl Board {
         ensures trips { trips_of self.new ≡ remove (trips_of self.old) at }
         ensures limit { limit_of self.new ≡ limit_of self.old }
     {
-        let _ = self.trips.remove(at);
+        self.trips.remove(at);
     }
 
     /// Sets the most duties that the trips may take, or refuses and changes nothing.
@@ -63,8 +66,8 @@ impl Board {
         ensures trips { trips_of self.new ≡ trips_of self.old }
         ensures limit { limit_of self.new ≡ after_set_limit (limit_of self.old) limit }
     {
-        if limit > 200 {
-            return Err(refused(Refusal::LimitTooHigh, limit));
+        if limit > MOST_DUTIES {
+            return Err(Layer::Board.fault(Refusal::LimitTooHigh, usize::from(limit)));
         }
         self.limit = limit;
         Ok(())

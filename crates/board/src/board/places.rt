@@ -2,7 +2,7 @@
 ghost use Rattle.std.specs.Prelude.{◌≡◌, ◌<◌, false, length, MatchOption, slice_index_or};
 ghost use Rattle.std.specs.List.{prefix_len};
 ghost use Rattle.trips.specs.Default.{no_trip};
-ghost use Rattle.board.specs.Order.{before};
+ghost use Rattle.board.specs.Order.{before, InOrder};
 ghost use Rattle.board.specs.Lists.{stands};
 
 use trips::Trip;
@@ -11,36 +11,27 @@ use trips::Trip;
 fn stands_before(first: &Trip, second: &Trip) -> bool
     ensures { result ≡ before first.now second.now }
 {
-    first.departure < second.departure
-        || first.departure == second.departure && first.number < second.number
+    (first.departure, first.number) < (second.departure, second.number)
 }
 
 /// How many trips at the front stand before the trip.
 pub(crate) fn place(trips: &[Trip], trip: &Trip) -> usize
+    requires { InOrder trips.now }
     ensures { result ≡ prefix_len (λ x. before x trip.now) trips.now }
 {
-    let mut at = 0;
-    while at < trips.len() && stands_before(&trips[at], trip) {
-        at += 1;
-    }
-    at
+    trips.partition_point(|other| stands_before(other, trip))
 }
 
 /// Where a trip with the number stands, or None where there is none.
 pub(crate) fn find(trips: &[Trip], number: u16) -> Option<usize>
     ensures { MatchOption result (stands trips.now number ≡ false) (λ i. (i < length trips.now) × ((slice_index_or trips.now i no_trip).number ≡ number)) }
 {
-    for (i, trip) in trips.iter().enumerate() {
-        if trip.number == number {
-            return Some(i);
-        }
-    }
-    None
+    trips.iter().position(|trip| trip.number == number)
 }
 
 /// Whether a trip with the number stands.
 pub(crate) fn number_stands(trips: &[Trip], number: u16) -> bool
     ensures { result ≡ stands trips.now number }
 {
-    find(trips, number).is_some()
+    trips.iter().any(|trip| trip.number == number)
 }

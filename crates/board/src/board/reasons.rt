@@ -1,24 +1,29 @@
-//! The reasons to refuse a trip, and the fault that a refusal gives.
+//! The reasons to refuse a trip.
 ghost use Rattle.std.specs.Prelude.{◌≡◌};
 ghost use Rattle.board.specs.Ranges.{in_range};
-ghost use Rattle.faults.specs.Shown.{fault_at};
-ghost use Rattle.faults.specs.declared.layer.Layer.TheVariants.{Board as BoardLayer};
 ghost use Rattle.board.specs.Refusals.{add_refusal};
 
+use super::MOST_TRIPS;
 use super::places::number_stands;
-use faults::{Fault, Layer, Refusal};
+use faults::Refusal;
 use rules::Rule;
 use trips::Trip;
+
+/// The last berth.
+const LAST_BERTH: u8 = 31;
+
+/// The last minute at which a trip may depart or arrive: fourteen days from the start.
+const LAST_MINUTE: u16 = 20_160;
 
 /// Whether the trip's number, berths and times are in their ranges.
 fn in_range(trip: &Trip) -> bool
     ensures { result ≡ in_range trip.now }
 {
     trip.number >= 1
-        && trip.start <= 31
-        && trip.departure <= 20_160
-        && trip.end <= 31
-        && trip.arrival <= 20_160
+        && trip.start <= LAST_BERTH
+        && trip.departure <= LAST_MINUTE
+        && trip.end <= LAST_BERTH
+        && trip.arrival <= LAST_MINUTE
 }
 
 /// Why the trip is not added: the first reason that holds, or None.
@@ -37,19 +42,8 @@ pub(crate) fn why_not_added<R: Rule>(rule: &R, trips: &[Trip], trip: &Trip) -> O
     if rule.yard_cents(trip).is_none() {
         return Some(Refusal::NotServed);
     }
-    if trips.len() >= 200 {
+    if trips.len() >= MOST_TRIPS {
         return Some(Refusal::BoardFull);
     }
     None
-}
-
-/// The board's fault with a refusal and the place that it speaks of.
-pub(crate) fn refused(refusal: Refusal, place: u16) -> Fault
-    ensures { result ≡ fault_at BoardLayer refusal place }
-{
-    Fault {
-        refusal,
-        layer: Layer::Board,
-        place: usize::from(place),
-    }
 }

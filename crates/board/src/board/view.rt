@@ -3,7 +3,7 @@ ghost use Rattle.std.specs.Prelude.{◌≡◌, ◌≤◌, [], IfOk};
 ghost use Rattle.board.specs.Boards.{limit_of, trips_of};
 ghost use Rattle.board.specs.Standing.{Standing};
 
-use super::Board;
+use super::{Board, MOST_TRIPS};
 use std::alloc::{AllocError, Global};
 use trips::Trip;
 
@@ -12,7 +12,7 @@ impl Board {
     pub fn new(heap: Global) -> Result<Board, AllocError>
         ensures { IfOk result (λ b. (trips_of b ≡ []) × (limit_of b ≡ 0)) }
     {
-        let trips = Vec::with_capacity(heap, 200)?;
+        let trips = Vec::with_capacity(heap, MOST_TRIPS)?;
         Ok(Board { trips, limit: 0 })
     }
 

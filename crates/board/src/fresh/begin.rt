@@ -18,7 +18,6 @@ impl NewBoard {
         ensures trips { trips_of result ≡ [] }
         ensures limit { limit_of result ≡ 0 }
     {
-        let NewBoard { board } = self;
-        board
+        self.board
     }
 }

@@ -1,6 +1,6 @@
-use Rattle.std.proofs.Common.{◌≡◌, ℕ, ◌<◌, length, get_or, pos}
-use Rattle.rows.specs.Places.{held}
+use Rattle.std.proofs.Common.{◌≡◌, ◌++◌, take, drop}
+use Rattle.rows.specs.Places.{kept}
 use Rattle.rows.proofs.places.bounded.Given as goal
 
-abbrev pub invariant-loop-i : goal.invariant-loop-i
-invariant-loop-i g l = (length l.out ≡ g.row.N) × ((k : ℕ) → k < l.i → get_or l.out k (pos 0) ≡ held (get_or l.xs k (pos 0)))
+abbrev pub invariant-loop-x : goal.invariant-loop-x
+invariant-loop-x g l = l.x-items ≡ kept (take l.x-index l.fn.xs) ++ drop l.x-index l.fn.xs

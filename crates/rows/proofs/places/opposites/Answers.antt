@@ -1,25 +1,20 @@
-use Rattle.std.proofs.Common.{◌≡◌, get_or, pos, neg_ℤ, arith, rules}
+use Rattle.std.proofs.Common.{neg_ℤ, arith}
 use borrow.Author.Differences.{ints}
-use Rattle.rows.specs.Places.{opposite}
 use Rattle.rows.proofs.Bounds.{near_at}
-use Rattle.rows.proofs.Steps.{map_all, write_more, kept_opposite}
+use Rattle.rows.proofs.Steps.{mapped_still, mapped_more, mapped_all, kept_opposite}
 use Rattle.rows.proofs.places.opposites.Goals as goal
 
-pub overflow_sub-out : goal.overflow_sub-out
-overflow_sub-out g c =
-    let a = near_at c.args.xs c.requires.near c.loop-i.i (omega arith) in
+pub overflow_sub-x : goal.overflow_sub-x
+overflow_sub-x g c =
+    let near = near_at c.args.xs c.requires.near c.loop-x.x-index (omega arith) in
+    let same = mapped_still neg_ℤ c.args.xs c.loop-x.x-items c.loop-x.x-index c.loop-x.invariant in
     omega (arith, ints)
 
-pub loop-i-preserved : goal.loop-i-preserved
-loop-i-preserved g c =
-    let xs = c.args.xs in
-    let i = c.loop-i.i in
-    let a = near_at xs c.requires.near i (omega arith) in (
-      search rules,
-      write_more (λ k. neg_ℤ (get_or xs k (pos 0))) c.loop-i.out i _ (omega arith) c.loop-i.invariant.1 (omega (arith, ints)),
-    )
+pub loop-x-preserved : goal.loop-x-preserved
+loop-x-preserved g c =
+    let near = near_at c.args.xs c.requires.near c.loop-x.x-index (omega arith) in
+    let same = mapped_still neg_ℤ c.args.xs c.loop-x.x-items c.loop-x.x-index c.loop-x.invariant in
+    mapped_more neg_ℤ c.args.xs c.loop-x.x-items c.loop-x.x-index _ (omega arith) c.loop-x.invariant (omega (arith, ints))
 
-pub returns : goal.returns
-returns g c =
-    let value : c.loop-i.out ≡ opposite c.args.xs = map_all neg_ℤ c.loop-i.out c.args.xs (omega arith) (λ k l. c.loop-i.invariant.1 k (omega arith)) in
-    record { value = value; near = kept_opposite c.args.xs c.loop-i.out c.requires.near value }
+pub returns-clause-near : goal.returns-clause-near
+returns-clause-near g c = kept_opposite c.args.xs _ c.requires.near (mapped_all neg_ℤ c.args.xs _ c.loop-x.x-index (omega arith) c.loop-x.invariant)

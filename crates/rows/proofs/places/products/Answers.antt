@@ -1,12 +1,12 @@
-use Rattle.std.proofs.Common.{get_or, pos, ◌*ℤ◌, ap, ◌∙◌, arith, w64}
+use Rattle.std.proofs.Common.{◌*ℤ◌, ap, ◌∙◌, arith, rules, w64, to_z, of_z}
 use Rattle.std.specs.Int.{saturate_to_bits}
 use Rattle.std.proofs.lemmas.Int.{to_z-of_z}
-use Rattle.rows.specs.Places.{kept}
-use Rattle.rows.proofs.Steps.{map_all, kept_saturated}
+use Rattle.rows.specs.Places.{scaled, kept}
+use Rattle.rows.proofs.Steps.{mapped_more, mapped_all, kept_saturated}
 use Rattle.rows.proofs.places.products.Goals as goal
 
+pub loop-x-preserved : goal.loop-x-preserved
+loop-x-preserved g c = mapped_more (λ x. saturate_to_bits 63 (x *ℤ to_z w64 (of_z w64 c.args.by))) c.args.xs c.loop-x.x-items c.loop-x.x-index _ (omega arith) c.loop-x.invariant (search rules)
+
 pub returns : goal.returns
-returns g c =
-    ap kept (map_all (λ x. saturate_to_bits 63 (x *ℤ c.args.by)) c.loop-i.out c.args.xs (omega arith)
-    (λ k l. c.loop-i.invariant.1 k (omega arith) ∙ ap (λ b. saturate_to_bits 63 (get_or c.args.xs k (pos 0) *ℤ b)) (to_z-of_z w64 c.args.by c.ranges.by)))
-    ∙ kept_saturated c.args.by c.args.xs
+returns g c = ap kept (mapped_all (λ x. saturate_to_bits 63 (x *ℤ to_z w64 (of_z w64 c.args.by))) c.args.xs _ c.loop-x.x-index (omega arith) c.loop-x.invariant) ∙ kept_saturated (to_z w64 (of_z w64 c.args.by)) c.args.xs ∙ ap (λ b. kept (scaled b c.args.xs)) (to_z-of_z w64 c.args.by c.ranges.by)

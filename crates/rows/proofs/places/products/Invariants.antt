@@ -1,6 +1,6 @@
-use Rattle.std.proofs.Common.{◌≡◌, ℕ, ◌<◌, length, get_or, pos, ◌*ℤ◌}
+use Rattle.std.proofs.Common.{◌≡◌, ◌++◌, map, ◌*ℤ◌, take, drop}
 use Rattle.std.specs.Int.{saturate_to_bits}
 use Rattle.rows.proofs.places.products.Given as goal
 
-abbrev pub invariant-loop-i : goal.invariant-loop-i
-invariant-loop-i g l = (length l.out ≡ g.row.N) × ((k : ℕ) → k < l.i → get_or l.out k (pos 0) ≡ saturate_to_bits 63 (get_or l.xs k (pos 0) *ℤ l.by))
+abbrev pub invariant-loop-x : goal.invariant-loop-x
+invariant-loop-x g l = l.x-items ≡ map (λ x. saturate_to_bits 63 (x *ℤ l.by)) (take l.x-index l.fn.xs) ++ drop l.x-index l.fn.xs

@@ -1,25 +1,22 @@
-use Rattle.std.proofs.Common.{get_or, pos, ◌+ℤ◌, arith, rules}
+use Rattle.std.proofs.Common.{arith}
 use borrow.Author.Differences.{ints}
 use Rattle.rows.proofs.Bounds.{near_at}
-use Rattle.rows.proofs.Steps.{added_all, write_more}
+use Rattle.rows.proofs.Steps.{sums_still, sums_more, sums_all}
 use Rattle.rows.proofs.places.sums.Goals as goal
 
-pub overflow_add-out : goal.overflow_add-out
-overflow_add-out g c =
+pub overflow_add-x : goal.overflow_add-x
+overflow_add-x g c =
     let a = near_at c.args.xs c.requires.first_near c.loop-i.i (omega arith) in
     let b = near_at c.args.ys c.requires.second_near c.loop-i.i (omega arith) in
+    let same = sums_still c.args.xs c.args.ys c.loop-i.x-items c.loop-i.i (omega arith) c.loop-i.invariant in
     omega (arith, ints)
 
 pub loop-i-preserved : goal.loop-i-preserved
 loop-i-preserved g c =
-    let xs = c.args.xs in
-    let ys = c.args.ys in
-    let i = c.loop-i.i in
-    let a = near_at xs c.requires.first_near i (omega arith) in
-    let b = near_at ys c.requires.second_near i (omega arith) in (
-      search rules,
-      write_more (λ k. get_or xs k (pos 0) +ℤ get_or ys k (pos 0)) c.loop-i.out i _ (omega arith) c.loop-i.invariant.1 (omega (arith, ints)),
-    )
+    let a = near_at c.args.xs c.requires.first_near c.loop-i.i (omega arith) in
+    let b = near_at c.args.ys c.requires.second_near c.loop-i.i (omega arith) in
+    let same = sums_still c.args.xs c.args.ys c.loop-i.x-items c.loop-i.i (omega arith) c.loop-i.invariant in
+    sums_more c.args.xs c.args.ys c.loop-i.x-items c.loop-i.i _ (omega arith) (omega arith) c.loop-i.invariant (omega (arith, ints))
 
 pub returns : goal.returns
-returns g c = added_all c.loop-i.out c.args.xs c.args.ys (omega arith) (omega arith) (λ k l. c.loop-i.invariant.1 k (omega arith))
+returns g c = sums_all c.args.xs c.args.ys _ c.loop-i.i (omega arith) c.loop-i.invariant

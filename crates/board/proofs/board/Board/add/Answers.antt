@@ -17,10 +17,10 @@ use Rattle.board.proofs.board.Board.add.Goals.{After-insert}
 use Rattle.board.proofs.board.Board.add.Goals as goal
 
 pub insert-requires : goal.insert-requires
-insert-requires g c = omega (arith, prefix_len-le-length (λ x. before x c.args.trip) c.as_slice-2.result.now, c.place-at.ensures, c.as_slice-2.ensures.len)
+insert-requires g c = omega (arith, prefix_len-le-length (λ x. before x c.args.trip) c.deref-2.result.now, c.place-at.ensures, c.deref-2.ensures.len)
 
 none : (g : given.Over) (c : goal.After-insert g) → add_refusal (g.R.Rule.yard c.args.rule.now) (vec_items c.args.self.now.trips) c.args.trip ≡ None
-none g c = sym (c.in_default.ensures ∙ ap (λ l. add_refusal (g.R.Rule.yard c.args.rule.now) l c.args.trip) c.as_slice.ensures.value)
+none g c = sym (c.in_default.ensures ∙ ap (λ l. add_refusal (g.R.Rule.yard c.args.rule.now) l c.args.trip) c.deref.ensures.value)
 
 fresh : (g : given.Over) (c : goal.After-insert g) → Welcome (g.R.Rule.yard c.args.rule.now) (vec_items c.args.self.now.trips) c.args.trip
 fresh g c = welcome (g.R.Rule.yard c.args.rule.now) (vec_items c.args.self.now.trips) c.args.trip (none g c)
@@ -32,8 +32,20 @@ put : (g : given.Over) (c : goal.After-insert g) → vec_items c.insert.new.self
 put g c =
     let b = c.args.self.now in
     chosen _ _ _ _ c.insert.ensures.items (c.insert.ensures.succeeds (room g c))
-    ∙ ap (λ p. insert (vec_items b.trips) p c.args.trip) (c.place-at.ensures ∙ ap (λ l. prefix_len (λ x. before x c.args.trip) l) c.as_slice-2.ensures.value)
-    ∙ inserted_added (vec_items b.trips) c.args.trip b.ordered (fresh g c).new
+    ∙ ap (λ p. insert (vec_items b.trips) p c.args.trip) (c.place-at.ensures ∙ ap (λ l. prefix_len (λ x. before x c.args.trip) l) c.deref-2.ensures.value)
+    ∙ inserted_added (vec_items b.trips) c.args.trip b.standing.ordered (fresh g c).new
+
+pub place-at-requires : goal.place-at-requires
+place-at-requires g c = subst InOrder (sym c.deref-2.ensures.value) c.args.self.now.standing.ordered
+
+pub unwrap-requires : goal.unwrap-requires
+unwrap-requires g c =
+    let b = c.args.self.now in
+    let yard = g.R.Rule.yard c.args.rule.now in
+    let w = welcome yard (vec_items b.trips) c.args.trip (sym (c.in_default.ensures ∙ ap (λ l. add_refusal yard l c.args.trip) c.deref.ensures.value)) in
+    let free = w.room in
+    let k = b.trips.ok.0 in
+    c.insert.ensures.succeeds (omega arith)
 
 pub invariant_of-self : goal.invariant_of-self
 invariant_of-self g c =
@@ -45,12 +57,14 @@ invariant_of-self g c =
     let cap = c.insert.ensures.capacity in
     let is = sym (put g c) in
     record {
-      few = omega arith;
+      standing = record {
+        few = omega arith;
+        ordered = subst InOrder is (added_in_order (vec_items b.trips) c.args.trip b.standing.ordered f.new);
+        differ = subst NumbersDiffer is (added_numbers_differ (vec_items b.trips) c.args.trip b.standing.ordered f.new b.standing.differ);
+        sound = subst AllSound is (added_each (vec_items b.trips) c.args.trip b.standing.ordered f.new (λ t. (in_range t && departs_first t) ≡ true) b.standing.sound f.sound);
+      };
       room = omega arith;
       limited = b.limited;
-      ordered = subst InOrder is (added_in_order (vec_items b.trips) c.args.trip b.ordered f.new);
-      differ = subst NumbersDiffer is (added_numbers_differ (vec_items b.trips) c.args.trip b.ordered f.new b.differ);
-      sound = subst AllSound is (added_each (vec_items b.trips) c.args.trip b.ordered f.new (λ t. (in_range t && departs_first t) ≡ true) b.sound f.sound);
     }
 
 pub returns : goal.returns
@@ -62,7 +76,7 @@ returns g c =
       answer = sym (ap (λ o. answer o c.args.trip.number) (none g at));
       trips = put g at ∙ sym (ap (λ o. unless_refused o (vec_items b.trips) (added (vec_items b.trips) c.args.trip)) (none g at));
       limit = refl;
-      exact = λ _. subst (Only (JoinedBy (vec_items b.trips) c.args.trip)) (sym (put g at)) (only_added (vec_items b.trips) c.args.trip b.ordered (fresh g at).new);
-      undone = λ _. subst (λ l. Undone l c.args.trip.number (vec_items b.trips)) (sym (put g at)) (undone (vec_items b.trips) c.args.trip b.ordered (fresh g at).new);
-      served = λ all. subst (AllServed yard) (sym (put g at)) (added_each (vec_items b.trips) c.args.trip b.ordered (fresh g at).new (λ t. is_some (yard t) ≡ true) all (fresh g at).served);
+      exact = λ _. subst (Only (JoinedBy (vec_items b.trips) c.args.trip)) (sym (put g at)) (only_added (vec_items b.trips) c.args.trip b.standing.ordered (fresh g at).new);
+      undone = λ _. subst (λ l. Undone l c.args.trip.number (vec_items b.trips)) (sym (put g at)) (undone (vec_items b.trips) c.args.trip b.standing.ordered (fresh g at).new);
+      served = λ all. subst (AllServed yard) (sym (put g at)) (added_each (vec_items b.trips) c.args.trip b.standing.ordered (fresh g at).new (λ t. is_some (yard t) ≡ true) all (fresh g at).served);
     }

@@ -18,13 +18,13 @@ returns c =
     let ts = vec_items b.trips in
     let n = c.args.number in
     let i = c.in-Some.at in
-    let found : (i < length ts) × ((get_or ts i no_trip).number ≡ n) = subst (λ l. (i < length l) × ((get_or l i no_trip).number ≡ n)) c.as_slice.ensures.value c.in-Some.ensures in
+    let found : (i < length ts) × ((get_or ts i no_trip).number ≡ n) = subst (λ l. (i < length l) × ((get_or l i no_trip).number ≡ n)) c.deref.ensures.value c.in-Some.ensures in
     let none = leaves ts n (stands_at ts n i found.0 found.1) in
-    let gone = c.take_off.ensures.trips ∙ removed_without ts n i found.0 found.1 (pairs_from Differ ts b.differ) in
+    let gone = c.take_off.ensures.trips ∙ removed_without ts n i found.0 found.1 (pairs_from Differ ts b.standing.differ) in
     record {
       answer = sym (ap (λ o. answer o n) none);
       trips = gone ∙ sym (ap (λ o. unless_refused o ts (without ts n)) none);
       limit = c.take_off.ensures.limit;
-      exact = λ _. subst (Only (RidOf ts n)) (sym gone) (only_without ts n b.ordered);
+      exact = λ _. subst (Only (RidOf ts n)) (sym gone) (only_without ts n b.standing.ordered);
       served = λ yard all. subst (AllServed yard) (sym gone) (without_each ts n (λ t. is_some (yard t) ≡ true) all);
     }

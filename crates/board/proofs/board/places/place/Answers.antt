@@ -1,20 +1,14 @@
-use Rattle.std.proofs.Common.{sym, arith}
-use Rattle.std.proofs.lemmas.List.Sums.{prefix_len-drop_yes, prefix_len-drop_no, prefix_len-drop_all}
+use Rattle.std.proofs.Common.{sym, arith, rules}
+use Rattle.std.proofs.lemmas.List.Sums.{prefix_len_is}
+use Rattle.std.proofs.lemmas.List.Sorted.{IsPartitionPoint-from_clause}
 use Rattle.trips.specs.Default.{no_trip}
 use Rattle.board.specs.Order.{before}
+use Rattle.board.proofs.Adds.{parted}
 use Rattle.board.proofs.board.places.place.Goals as goal
 
-pub loop-at-preserved : goal.loop-at-preserved
-loop-at-preserved c =
-    let more = prefix_len-drop_yes (λ x. before x c.args.trip.now) c.args.trips.now c.loop-at.at no_trip c.loop-at-test.true (sym c.if-stands_before.ensures) in
-    omega (arith, more, c.loop-at.invariant)
-
-pub returns-else-stands_before : goal.returns-else-stands_before
-returns-else-stands_before c =
-    let none = prefix_len-drop_no (λ x. before x c.args.trip.now) c.args.trips.now c.loop-at.at no_trip c.loop-at-test.true (sym c.if-stands_before.ensures) in
-    omega (arith, none, c.loop-at.invariant)
-
-pub returns-after-loop-at : goal.returns-after-loop-at
-returns-after-loop-at c =
-    let none = prefix_len-drop_all (λ x. before x c.args.trip.now) c.args.trips.now c.loop-at.at c.loop-at-test.false in
-    omega (arith, none, c.loop-at.invariant)
+pub returns : goal.returns
+returns c =
+    let ts = c.args.trips.now in
+    let t = c.args.trip.now in
+    let point = IsPartitionPoint-from_clause (λ x. before x t) ts c.partition_point.result c.partition_point.ensures.partitioned (parted ts t c.requires) (λ a r f' k. search rules) in
+    sym (prefix_len_is (λ x. before x t) ts c.partition_point.result no_trip c.partition_point.ensures.bound (λ k l. point.0 k no_trip (omega arith) l) (λ l. point.1 _ no_trip (omega arith) l))
