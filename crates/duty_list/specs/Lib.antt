@@ -1,2 +1,3 @@
+pub mod Along
 pub mod Firsts
 pub mod ToCome

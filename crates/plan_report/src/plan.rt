@@ -3,8 +3,6 @@ ghost use Rattle.std.specs.Prelude.{◌≡◌, Some};
 ghost use Rattle.std.specs.Fmt.{WritesOnOk};
 ghost use Rattle.plan_report.specs.Lines.{plan_text};
 
-use crate::duty_lines::put_duties;
-use crate::last_line::put_last;
 use rows::Rowed;
 use std::fmt;
 use trips::Trip;
@@ -13,10 +11,10 @@ use trips::Trip;
 /// duties, and what they cost.
 #[derive(Clone, Copy)]
 pub struct PlanLines<'s, 't, V> {
-    successors: &'s [u16],
-    trips: &'t [Trip],
-    duties: u16,
-    cost: V,
+    pub(crate) successors: &'s [u16],
+    pub(crate) trips: &'t [Trip],
+    pub(crate) duties: u16,
+    pub(crate) cost: V,
 }
 
 impl<'s, 't, V: Rowed> PlanLines<'s, 't, V> {
@@ -39,26 +37,20 @@ impl<'s, 't, V: Rowed> PlanLines<'s, 't, V> {
             cost,
         }
     }
-}
 
-/// The lines of a plan.
-fn put_plan<W: fmt::Write, V: Rowed>(
-    f: &mut fmt::Formatter<W>,
-    successors: &[u16],
-    trips: &[Trip],
-    duties: u16,
-    cost: V,
-) -> fmt::Result
-    ensures { WritesOnOk W.Write.write_str_gives f.old result (plan_text successors.now trips.now duties (V.Rowed.row cost)) f.new }
-{
-    put_duties(f, successors, trips)?;
-    put_last(f, duties, cost)
+    /// The lines of the plan.
+    fn put_plan<W: fmt::Write>(&self, f: &mut fmt::Formatter<W>) -> fmt::Result
+        ensures { WritesOnOk W.Write.write_str_gives f.old result (plan_text self.now.successors.now self.now.trips.now self.now.duties (V.Rowed.row self.now.cost)) f.new }
+    {
+        self.put_duties(f)?;
+        self.put_last(f)
+    }
 }
 
 impl<V: Rowed> fmt::Display for PlanLines<'_, '_, V> {
     ghost output = { λ p. Some (plan_text p.successors.now p.trips.now p.duties (V.Rowed.row p.cost)) };
 
     fn fmt<W: fmt::Write>(&self, f: &mut fmt::Formatter<W>) -> fmt::Result {
-        put_plan(f, self.successors, self.trips, self.duties, self.cost)
+        self.put_plan(f)
     }
 }

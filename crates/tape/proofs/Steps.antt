@@ -1,8 +1,8 @@
 -- How reading goes on from one command to the next. Assumes nothing.
-use Rattle.std.proofs.Common.{◌≡◌, ℕ, zero, suc, ◌+◌, ◌-◌, ◌<◌, ◌≤◌, ltb, leb, List, [], ◌∷◌, length, get_or, take, drop, Some, None, Ok, Err, Option, sym, refl, ap, ◌∙◌, arith, length-drop}
+use Rattle.std.proofs.Common.{◌≡◌, ℕ, zero, suc, ◌+◌, ◌-◌, ◌<◌, ◌≤◌, ltb, leb, List, [], ◌∷◌, length, get_or, take, drop, Some, None, Ok, Err, sym, refl, ap, ◌∙◌, arith, length-drop}
+use Rattle.std.specs.List.{slice_range}
 use Rattle.std.proofs.lemmas.List.{drop_more, drop-drop, drop_all}
 use Rattle.std.proofs.lemmas.Bool.{cond-true, cond-false, cond_both, le-leb, lt-leb, ltb-false}
-use Rattle.faults.specs.declared.fault.Fault.{Fault}
 use Rattle.faults.specs.declared.refusal.Refusal.TheVariants.{UnknownLetter, OperandsCutShort}
 use Rattle.tape.specs.declared.kind.Kind.{Kind}
 use Rattle.tape.specs.declared.command.Command.{Command}
@@ -39,23 +39,14 @@ module _ (tape : List ℕ) (at : ℕ) (inside : at < length tape) where
   here : to_come tape at ≡ items 0 at (get_or tape at 0 ∷ drop (at + 1) tape)
   here = to_come_lem tape at ∙ ap (items 0 at) (drop_more tape at 0 inside)
 
-  module _ (o : Option Kind) (found : o ≡ kind_of (get_or tape at 0)) where
-    pub step_unknown : (f : Fault) → f ≡ tape_fault UnknownLetter at → o ≡ None → to_come tape at ≡ Err f ∷ []
-    step_unknown f e is = here ∙ items_unknown at (get_or tape at 0) (drop (at + 1) tape) (sym found ∙ is) ∙ ap (λ g. Err g ∷ []) (sym e)
-
-    module _ (k : Kind) (is : o ≡ Some k) (w : ℕ) (wide : w ≡ (form k).width) where
-      pub step_short : (f : Fault) → f ≡ tape_fault OperandsCutShort at → length tape < at + 1 + w → to_come tape at ≡ Err f ∷ []
-      step_short f e few =
-          let l = length-drop (at + 1) tape in
-          here ∙ items_short at (get_or tape at 0) (drop (at + 1) tape) k (sym found ∙ is) (omega arith) ∙ ap (λ g. Err g ∷ []) (sym e)
-
-      pub step_command : (c : Command) → c ≡ command_of k (take (at + 1 + w - (at + 1)) (drop (at + 1) tape)) → at + 1 + w ≤ length tape → to_come tape at ≡ Ok c ∷ to_come tape (at + 1 + w)
-      step_command c e all =
-          let l = length-drop (at + 1) tape in
-          let n : at + 1 + w - (at + 1) ≡ (form k).width = omega arith in
-          let first : c ≡ command_of k (take (form k).width (drop (at + 1) tape)) = e ∙ ap (λ m. command_of k (take m (drop (at + 1) tape))) n in
-          here
-          ∙ items_command at (get_or tape at 0) (drop (at + 1) tape) k (sym found ∙ is) (omega arith)
-          ∙ ap (λ m. Ok (command_of k (take (form k).width (drop (at + 1) tape))) ∷ items 0 (at + 1 + m) (drop m (drop (at + 1) tape))) (sym wide)
-          ∙ ap (λ d. d ∷ items 0 (at + 1 + w) (drop w (drop (at + 1) tape))) (ap Ok (sym first))
-          ∙ ap (λ l. Ok c ∷ l) (ap (items 0 (at + 1 + w)) (drop-drop w (at + 1) tape) ∙ sym (to_come_lem tape (at + 1 + w)))
+  module _ (k : Kind) (is : kind_of (get_or tape at 0) ≡ Some k) (w : ℕ) (wide : w ≡ (form k).width) where
+    pub step_command : (c : Command) (operands : List ℕ) → c ≡ command_of k operands → operands ≡ slice_range tape (at + 1) (at + 1 + w) → at + 1 + w ≤ length tape → to_come tape at ≡ Ok c ∷ to_come tape (at + 1 + w)
+    step_command c operands e cut all =
+        let l = length-drop (at + 1) tape in
+        let n : at + 1 + w - (at + 1) ≡ (form k).width = omega arith in
+        let first : c ≡ command_of k (take (form k).width (drop (at + 1) tape)) = e ∙ ap (command_of k) (cut ∙ ap (λ m. take m (drop (at + 1) tape)) n) in
+        here
+        ∙ items_command at (get_or tape at 0) (drop (at + 1) tape) k is (omega arith)
+        ∙ ap (λ m. Ok (command_of k (take (form k).width (drop (at + 1) tape))) ∷ items 0 (at + 1 + m) (drop m (drop (at + 1) tape))) (sym wide)
+        ∙ ap (λ d. d ∷ items 0 (at + 1 + w) (drop w (drop (at + 1) tape))) (ap Ok (sym first))
+        ∙ ap (λ l. Ok c ∷ l) (ap (items 0 (at + 1 + w)) (drop-drop w (at + 1) tape) ∙ sym (to_come_lem tape (at + 1 + w)))

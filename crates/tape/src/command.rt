@@ -1,7 +1,7 @@
 //! The commands of a tape.
 
 /// A command as a tape has it. Any number, berth, time and limit may stand here.
-#[derive(Clone, Copy)]
+#[derive(Clone, Copy, PartialEq, Eq, Debug)]
 pub enum Command {
     /// Lay out a trip: its number, the berth and time it starts at, and the berth and time it ends at.
     Add {

@@ -1,9 +1,12 @@
 //! The kinds of commands: their letters, and what their operands say.
-ghost use Rattle.std.specs.Prelude.{◌≡◌, ◌+◌, ◌<◌, ◌≤◌, length, slice_index};
+ghost use Rattle.std.specs.Prelude.{◌≡◌, ◌+◌, ◌≤◌, length};
+ghost use Rattle.std.specs.Option.{ok_or};
+ghost use Rattle.faults.specs.declared.refusal.Refusal.{Refusal};
 ghost use Rattle.tape.specs.Kinds.{form, kind_of};
 ghost use Rattle.tape.specs.Written.{word_at, command_of};
 
 use crate::command::Command;
+use faults::Refusal;
 
 /// What a letter says: which command it begins.
 #[derive(Clone, Copy)]
@@ -22,21 +25,24 @@ fn word(bytes: &[u8], at: usize) -> u16
     u16::from_be_bytes([bytes[at], bytes[at + 1]])
 }
 
-impl Kind {
-    /// The kind whose letter stands at an offset, or None where that byte is no kind's letter.
-    pub(crate) fn at(tape: &[u8], at: usize) -> Option<Kind>
-        requires { at < length tape.now }
-        ensures { result ≡ kind_of (slice_index tape.now at) }
-    {
-        match char::from(tape[at]) {
-            'A' => Some(Kind::Add),
-            'W' => Some(Kind::Withdraw),
-            'L' => Some(Kind::Limit),
-            'P' => Some(Kind::Plan),
-            _ => None,
+impl TryFrom<u8> for Kind {
+    type Error = Refusal;
+
+    ghost try_from_gives = { λ letter kind. kind ≡ ok_or (kind_of letter) Refusal.UnknownLetter };
+
+    /// The kind with this letter. A byte that is no kind's letter is refused.
+    fn try_from(letter: u8) -> Result<Kind, Refusal> {
+        match char::from(letter) {
+            'A' => Ok(Kind::Add),
+            'W' => Ok(Kind::Withdraw),
+            'L' => Ok(Kind::Limit),
+            'P' => Ok(Kind::Plan),
+            _ => Err(Refusal::UnknownLetter),
         }
     }
+}
 
+impl Kind {
     /// How many bytes of operands follow the letter.
     pub(crate) fn width(self) -> usize
         ensures { result ≡ (form self).width }

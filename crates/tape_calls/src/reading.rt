@@ -4,14 +4,13 @@ ghost use Rattle.tape_calls.specs.Calls.{call_of, HoldsCalls};
 
 use crate::tape_calls::TapeCalls;
 use calls::Call;
+use faults::MOST_BYTES;
 use std::alloc::{AllocError, Global};
 use tape::{Command, TapeReader};
 use trips::Trip;
 
-/// A tape has at most so many bytes, and so at most so many commands.
-const MOST_CALLS: usize = 60_000;
-
-/// The call that a command stands for.
+/// The call that a command stands for. A function and no impl of `From`: that would have to stand in
+/// `calls` or in `tape`, which know nothing of one another.
 fn call_of(command: Command) -> Call
     ensures { result ≡ call_of command }
 {
@@ -41,9 +40,8 @@ fn read_into(mut calls: Vec<Call>, tape: &[u8]) -> TapeCalls
     requires room { min (length tape.now) 60000 ≤ vec_capacity calls }
     ensures { HoldsCalls tape.now result.calls.items result.fault }
 {
-    let mut reader = TapeReader::new(tape);
-    while let Some(next) = reader.next() {
-        match next {
+    for item in TapeReader::new(tape) {
+        match item {
             Ok(command) => calls.push_reserved(call_of(command)),
             Err(fault) => {
                 let fault = Some(fault);
@@ -54,12 +52,12 @@ fn read_into(mut calls: Vec<Call>, tape: &[u8]) -> TapeCalls
     TapeCalls { calls, fault: None }
 }
 
-/// Reads a whole tape. Room for as many calls as the tape can hold is reserved first, so want of memory
+/// Reads a whole tape. Room for as many calls as the tape can hold, one for each byte that is read, is reserved first, so want of memory
 /// can come at no other moment.
 pub fn read_tape(heap: Global, tape: &[u8]) -> Result<TapeCalls, AllocError>
     ensures { IfOk result (λ t. HoldsCalls tape.now t.calls.items t.fault) }
 {
-    let room = tape.len().min(MOST_CALLS);
+    let room = tape.len().min(MOST_BYTES);
     let calls = Vec::with_capacity(heap, room)?;
     Ok(read_into(calls, tape))
 }

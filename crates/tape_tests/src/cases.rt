@@ -2,11 +2,13 @@
 use faults::Fault;
 use std::alloc::Global;
 use std::fmt::Write;
+use std::iter;
 use std::process::Abort;
 use std::test::Fail;
 use tape::{Command, TapeReader};
 
-/// Writes what is handed on behind what was handed on before.
+/// Writes what is handed on behind what was handed on before: as text, since a short line then says what
+/// is expected of many commands and the fault after them.
 fn show(text: &mut String, item: Result<Command, Fault>) -> Result<(), Fail> {
     match item {
         Ok(
@@ -29,8 +31,7 @@ fn show(text: &mut String, item: Result<Command, Fault>) -> Result<(), Fail> {
 /// Sees that this is handed on of the tape.
 fn gives(rt: &impl Abort, heap: Global, tape: &[u8], all: &str) -> Result<(), Fail> {
     let mut text = String::new(heap);
-    let mut reader = TapeReader::new(tape);
-    while let Some(item) = reader.next() {
+    for item in TapeReader::new(tape) {
         show(&mut text, item)?;
     }
     assert_eq!(rt; text.as_str(), all);
@@ -97,8 +98,8 @@ fn unknown_letters(rt: HostRuntime) -> Result<(), Fail> {
 fn operands_cut_short(rt: HostRuntime) -> Result<(), Fail> {
     let heap = rt.alloc();
     let add = b"A\x01\x02\x03\x04\x05\x06\x07";
-    for operands in 0..8 {
-        gives(&rt, heap, &add[0..operands + 1], "refused 25 tape 0. ")?;
+    for end in 1..=add.len() {
+        gives(&rt, heap, &add[..end], "refused 25 tape 0. ")?;
     }
     gives(&rt, heap, b"W", "refused 25 tape 0. ")?;
     gives(&rt, heap, b"W\x01", "refused 25 tape 0. ")?;
@@ -125,23 +126,15 @@ fn faults_in_the_middle(rt: HostRuntime) -> Result<(), Fail> {
 }
 
 /// Sees that so many plans are handed on of the tape, and nothing else.
-fn gives_plans(rt: &impl Abort, tape: &[u8], plans: usize) -> Result<(), Fail> {
-    let mut reader = TapeReader::new(tape);
-    for _ in 0..plans {
-        match reader.next() {
-            Some(Ok(Command::Plan)) => {}
-            _ => return Err(Fail::new("no plan is handed on")),
-        }
-    }
-    assert!(rt; reader.next().is_none());
-    Ok(())
+fn gives_plans(rt: &impl Abort, tape: &[u8], plans: usize) {
+    assert!(rt; TapeReader::new(tape).eq(iter::repeat_n(Ok(Command::Plan), plans)));
 }
 
 #[test]
 fn most_bytes(rt: HostRuntime) -> Result<(), Fail> {
     let heap = rt.alloc();
     let full = vec![in heap; b'P'; 60000]?;
-    gives_plans(&rt, full.as_slice(), 60000)?;
+    gives_plans(&rt, full.as_slice(), 60000);
     let long = vec![in heap; b'P'; 60001]?;
     gives(&rt, heap, long.as_slice(), "refused 1 tape 0. ")?;
     let unknown = vec![in heap; b'?'; 60001]?;

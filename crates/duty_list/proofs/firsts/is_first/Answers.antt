@@ -1,11 +1,10 @@
-use Rattle.duty_list.proofs.Looking.{stands_here, stands_later, stands_nowhere}
+use Rattle.std.proofs.Common.{eqb, not, ap, ◌∙◌, rules, tests}
+use Rattle.std.proofs.lemmas.Iterator.{YieldsList-from_slice}
+use Rattle.std.proofs.lemmas.Iterator.Search.{any_from_yields_List}
+use Rattle.duty_list.proofs.Looking.{stands_not}
 use Rattle.duty_list.proofs.firsts.is_first.Goals as goal
 
-pub returns-then-from-position : goal.returns-then-from-position
-returns-then-from-position c = stands_here c.args.position c.args.successors.now c.loop-entry.entry-index c.loop-entry.invariant c.from.result c.loop-entry-test.true c.from.ensures c.if-from-position.true
-
-pub loop-entry-preserved : goal.loop-entry-preserved
-loop-entry-preserved c = stands_later c.args.position c.args.successors.now c.loop-entry.entry-index c.loop-entry.invariant c.from.result c.loop-entry-test.true c.from.ensures c.if-from-position.false
-
 pub returns : goal.returns
-returns c = stands_nowhere c.args.position c.args.successors.now c.loop-entry.entry-index c.loop-entry.invariant c.loop-entry-test.false
+returns c =
+    let any = any_from_yields_List (λ x. eqb x c.args.position) _ _ c.any.result c.any.ensures.ran (YieldsList-from_slice c.args.successors.now cc) (λ x b q k. search (rules, tests)) in
+    ap not any ∙ stands_not c.args.position c.args.successors.now
