@@ -1,5 +1,5 @@
 -- How many entries of a table are none, after one entry is written and where all are. Assumes nothing.
-use Rattle.std.proofs.Common.{◌≡◌, ℕ, suc, ◌+◌, ◌<◌, ◌≢◌, List, [], ◌∷◌, length, set, refl, arith, get_or-set_other}
+use Rattle.std.proofs.Common.{◌≡◌, ℕ, suc, ◌+◌, ◌<◌, ◌≢◌, List, [], ◌∷◌, length, set, refl, arith}
 use Rattle.std.proofs.lemmas.List.Sums.{sum_by-set, sum_by-cons}
 use Rattle.std.proofs.lemmas.Bool.Decides.{nat_tests}
 use Rattle.matchings.specs.Tables.{at, lone, free}
@@ -23,7 +23,3 @@ free_all (x ∷ xs) f =
     let r = free_all xs (λ k l. f (suc k) (omega arith)) in
     let c = sum_by-cons lone x xs in
     grind (arith, nat_tests)
-
--- an entry that is not written
-pub other : (xs : List ℕ) (k i v : ℕ) → i ≢ k → at (set xs k v) i ≡ at xs i
-other xs k i v ne = get_or-set_other xs k i v 0 ne

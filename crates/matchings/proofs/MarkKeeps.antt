@@ -1,11 +1,10 @@
 -- A tail of slack zero that is marked as reached: what then holds of the reached tails and heads. Assumes nothing.
-use Rattle.std.proofs.Common.{◌≡◌, ℕ, ◌+◌, ◌<◌, ◌≢◌, ◌⊎◌, List, length, set, ℤ, pos, Some, sym, ap, ◌∙◌, inl, inr, arith, get_or-set_same}
+use Rattle.std.proofs.Common.{◌≡◌, ℕ, ◌+◌, ◌<◌, ◌≢◌, ◌⊎◌, List, length, set, ℤ, pos, Some, sym, ap, ◌∙◌, inl, inr, arith, get_or-set_other, get_or-set_same}
 use borrow.Author.Differences.{ints}
 use Rattle.std.proofs.lemmas.Bool.{cases_eq}
 use Rattle.duties.specs.Duties.{Net}
 use Rattle.matchings.specs.Tables.{at, at_z, Reached}
 use Rattle.matchings.specs.Sound.{Matching, Slacks, Tree, Taken}
-use Rattle.matchings.proofs.Counts.{other}
 
 module _ (net : Net ℤ) (n : ℕ) (small : n < 65535) (next prior reached via : List ℕ) (a b slack : List ℤ) (t i : ℕ) (m : Matching n next prior) (long : length reached ≡ n)
     (tree : Tree net n prior reached via a b t) (slacks : Slacks net n (Reached prior reached) reached via a b slack) (few : t < 65535)
@@ -17,7 +16,7 @@ module _ (net : Net ℤ) (n : ℕ) (small : n < 65535) (next prior reached via :
   mark_at = get_or-set_same reached i t 0 (omega arith)
 
   mark_other : (k : ℕ) → k ≢ i → at (set reached i t) k ≡ at reached k
-  mark_other k ne = other reached i k t ne
+  mark_other k ne = get_or-set_other reached i k t 0 ne
 
   -- what is not reached now was not reached before
   pub mark_was : (k : ℕ) → at (set reached i t) k ≡ 65535 → at reached k ≡ 65535

@@ -1,5 +1,5 @@
 -- One step of a growth, in tables of values: what it needs of their ranges, and what holds after it. Assumes nothing.
-use Rattle.std.proofs.Common.{◌≡◌, ℕ, ◌+◌, ◌<◌, ◌≤◌, List, length, get_or, set, ℤ, pos, ◌+ℤ◌, ◌≤ℤ◌, Some, sym, ◌∙◌, arith}
+use Rattle.std.proofs.Common.{◌≡◌, ℕ, ◌+◌, ◌<◌, ◌≤◌, List, length, get_or, set, ℤ, pos, ◌+ℤ◌, ◌≤ℤ◌, Some, sym, ◌∙◌, arith, get_or-set_other}
 use borrow.Author.Differences.{ints}
 use Rattle.rows.specs.Places.{added, kept, Near, weight}
 use Rattle.duties.specs.Duties.{Net}
@@ -7,7 +7,7 @@ use Rattle.matchings.specs.Tables.{at, at_z, Scan, Reached, RaiseHeads, RaiseTai
 use Rattle.matchings.specs.Rowed.{place, weights, places, PlacesNear, TableNear, SlacksNear, weighed, Bounded, Spread, Ranged}
 use Rattle.matchings.specs.Sound.{Tree, Raised}
 use Rattle.matchings.specs.Growths.{Stands, Rests, Growing}
-use Rattle.matchings.proofs.Counts.{free_less, other}
+use Rattle.matchings.proofs.Counts.{free_less}
 use Rattle.matchings.proofs.MarkKeeps.{mark_was, mark_old, mark_still}
 use Rattle.matchings.proofs.Ranges.{weighed_forward, fine_near, fine_small, range_head, range_tail, range_slack, spread_raise, range_hull, range_mark, range_end, link_two, link_three}
 use Rattle.matchings.proofs.Reaching.{raised, ended, grown}
@@ -175,6 +175,6 @@ module _ {V : Type 0} (row : V → List ℤ) (count : ℕ) (long : (v : V) → l
                   (mark_old (weighed net) n small next prior reached via (weights row a') (weights row b') (weights row slack') t i m lo r.tree r.slacks lower l least.1 least.2 r.zero)
                   (mark_still (weighed net) n small next prior reached via (weights row a') (weights row b') (weights row slack') t i m lo r.tree r.slacks lower l least.1 least.2 r.zero)
                   (mark_was (weighed net) n small next prior reached via (weights row a') (weights row b') (weights row slack') t i m lo r.tree r.slacks lower l least.1 least.2 r.zero)
-                  (λ k ne. other reached i k t ne)
+                  (λ k ne. get_or-set_other reached i k t 0 ne)
                   w.0 w.1 w.2;
             }

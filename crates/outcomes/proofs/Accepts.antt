@@ -2,7 +2,7 @@
 use Rattle.std.proofs.Common.{◌≡◌, ℕ, zero, suc, ◌+◌, ◌*◌, ◌<◌, ◌≤◌, false, ◌⊎◌, List, [], ◌∷◌, map, length, get_or, ℤ, pos, negsuc, ◌-ℤ◌, ◌*ℤ◌, neg_ℤ, ◌≤ℤ◌, is_some, unwrap_or, sym, refl, ap, ◌∙◌, subst, inl, inr, mul-le-mul_right, arith}
 use borrow.Author.Differences.{ints}
 use lib.IntN.{*ℤ_comm, *ℤ-negsuc}
-use Rattle.std.proofs.lemmas.List.{get_or-map}
+use Rattle.std.proofs.lemmas.List.{get_or-map, get_or_default}
 use Rattle.rows.specs.Places.{added, opposite, scaled, most, kept, Small, below, weight, wide}
 use Rattle.rows.proofs.Bounds.{kept_same, small_weaker}
 use Rattle.duties.specs.Duties.{Net, wholes, Links, Selection, Cover, positions, missing, sum_over, cost, below as upto}
@@ -63,11 +63,6 @@ size_less m n k l r = by (pos m -ℤ pos n) refl
     by (pos x) e = let f : pos x ≤ℤ pos m = omega (arith, ints) in let g : pos x ≤ℤ pos k = omega (arith, ints) in omega (arith, ints)
     by (negsuc x) e = let g : pos (suc x) ≤ℤ pos n = omega (arith, ints) in omega (arith, ints)
 
-any_default : {V : Type 0} (xs : List V) (k : ℕ) (d e : V) → k < length xs → get_or xs k d ≡ get_or xs k e
-any_default [] k d e l = absurd (omega arith)
-any_default (x ∷ xs) zero d e l = refl
-any_default (x ∷ xs) (suc k) d e l = any_default xs k d e (omega arith)
-
 module _ {V : Type 0} (row : V → List ℤ) (count : ℕ) (long : (v : V) → length (row v) ≡ count) (near : (v : V) → kept (row v) ≡ row v) (net : Net (List ℤ)) (bd : Bounded count net)
     (few : net.trips ≤ 200) (next prior : List ℕ) (a b : List V) (h : V) (st : Stands row net net.trips next prior a b h) (rests : Rests row net.trips a b h) where
   abbrev n : ℕ
@@ -114,7 +109,7 @@ module _ {V : Type 0} (row : V → List ℤ) (count : ℕ) (long : (v : V) → l
       let e : get_or (map row prices) k [] ≡ row v = get_or-map row prices k h [] lk in
       record {
         long = ap length e ∙ long v;
-        weighs = ap weight e ∙ sym (weights_at row prices k v lk (any_default prices k h v lk)) ∙ paid.each k l;
+        weighs = ap weight e ∙ sym (weights_at row prices k v lk (get_or_default prices k h v lk)) ∙ paid.each k l;
         small = subst (Small most) (sym e) (value_small row count long near v);
       }
 
@@ -132,8 +127,8 @@ module _ {V : Type 0} (row : V → List ℤ) (count : ℕ) (long : (v : V) → l
       let lb : k < length b = let e = st.b_long in omega arith in
       let x = get_or a k h in
       let y = get_or b k h in
-      let ex = any_default a k h x la in
-      let ey = any_default b k h y lb in
+      let ex = get_or_default a k h x la in
+      let ey = get_or_default b k h y lb in
       let rx : Row count (row x) (A k) 32012000000000 = record { long = long x; weighs = sym (weights_at row a k x la ex); small = small_from_near 32012000000000 (row x) (near_read row 32012000000000 a k x la ex coming_near) } in
       let ry : Row count (row y) (B k) 32012000000000 = record { long = long y; weighs = sym (weights_at row b k y lb ey); small = small_from_near 32012000000000 (row y) (near_read row 32012000000000 b k y lb ey leaving_near) } in
       subst (λ r. Row count r (price A B k) most) (sym (summed_at row a b k h la lb)) (row_more count _ _ (32012000000000 + 32012000000000) most (omega arith) (row_added count (row x) (row y) (A k) (B k) 32012000000000 32012000000000 rx ry))

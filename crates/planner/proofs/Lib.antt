@@ -1,5 +1,6 @@
-pub mod SearchSteps
-pub mod HighCosts
+pub mod EntryTests
+pub mod Reaches
+pub mod Settles
 pub mod Endings
 pub mod DayBounds
 pub mod Fronts

@@ -1,45 +1,38 @@
 //! What plan looks at before any search, and the faults that it tells.
 ghost use Rattle.std.specs.Prelude.{◌≡◌, ◌≤◌, length, MatchOption};
-ghost use Rattle.faults.specs.Shown.{fault_at};
-ghost use Rattle.faults.specs.declared.layer.Layer.TheVariants.{Board as BoardLayer, Planner as PlannerLayer};
-ghost use Rattle.faults.specs.declared.refusal.Refusal.TheVariants.{NotServed};
 ghost use Rattle.board.specs.Standing.{AllServed};
-ghost use Rattle.plans.specs.Answers.{FirstUnserved, fee_high, short};
+ghost use Rattle.plans.specs.Answers.{FirstUnserved, fee_high, too_short};
+ghost use Rattle.plans.specs.Lent.{tables_of};
 ghost use Rattle.planner.specs.Answered.{unplanned_fault};
 
 use crate::outcome::Unplanned;
 use faults::{Fault, Layer, Refusal};
+use plans::Tables;
 use rules::Rule;
 use trips::Trip;
 
-/// The highest fee.
+/// The highest fee. This is a rule of its own, beside the one by which a tariff counts cents up to the same number.
 const MOST_FEE: u32 = 1_000_000_000;
 
 /// Where the first trip stands that the rule does not serve.
 pub(crate) fn first_unserved<R: Rule>(rule: &R, trips: &[Trip]) -> Option<usize>
     ensures { MatchOption result (AllServed (R.Rule.yard rule.now) trips.now) (λ k. FirstUnserved (R.Rule.yard rule.now) trips.now k) }
 {
-    for (k, trip) in trips.iter().enumerate() {
-        if rule.yard_cents(trip).is_none() {
-            return Some(k);
-        }
-    }
-    None
+    trips
+        .iter()
+        .position(|trip| rule.yard_cents(trip).is_none())
 }
 
-/// Whether tables of these lengths are too short for so many trips.
-pub(crate) fn is_short(
-    trips: usize,
-    successors: usize,
-    prices: usize,
-    numbers: usize,
-    values: usize,
-) -> bool
+/// Whether some table is too short for so many trips.
+pub(crate) fn is_short<V>(tables: &Tables<'_, V>, trips: usize) -> bool
     requires { trips ≤ 200 }
-    ensures { result ≡ short trips successors prices numbers values }
+    ensures { result ≡ too_short trips (tables_of tables.now) }
 {
     let work = 4 * trips + 4;
-    successors < trips || prices < trips || numbers < work || values < work
+    tables.successors.len() < trips
+        || tables.prices.len() < trips
+        || tables.numbers.len() < work
+        || tables.values.len() < work
 }
 
 /// Whether a fee is too high.
@@ -49,34 +42,16 @@ pub(crate) fn is_fee_high(fee: u32) -> bool
     fee > MOST_FEE
 }
 
-/// The board's fault for a trip that the rule does not serve.
-pub(crate) fn not_served(number: u16) -> Fault
-    ensures { result ≡ fault_at BoardLayer NotServed number }
-{
-    Fault {
-        refusal: Refusal::NotServed,
-        layer: Layer::Board,
-        place: usize::from(number),
-    }
-}
+impl From<Unplanned> for Fault {
+    ghost from_gives = { λ why fault. fault ≡ unplanned_fault why };
 
-/// The planner's fault with a refusal and the place that it speaks of.
-pub(crate) fn refused(refusal: Refusal, place: usize) -> Fault
-    ensures { result ≡ fault_at PlannerLayer refusal place }
-{
-    Fault {
-        refusal,
-        layer: Layer::Planner,
-        place,
-    }
-}
-
-/// The fault by which it is told that a search came to no plan.
-pub(crate) fn fault_of(why: Unplanned) -> Fault
-    ensures { result ≡ unplanned_fault why }
-{
-    match why {
-        Unplanned::TooFew(fewest) => refused(Refusal::TooFewHulls, fewest),
-        Unplanned::TooDear => refused(Refusal::CostTooHigh, 0),
+    /// The fault by which it is told that a search came to no plan.
+    fn from(why: Unplanned) -> Fault {
+        match why {
+            Unplanned::TooFew(fewest) => {
+                Layer::Planner.fault(Refusal::TooFewHulls, usize::from(fewest))
+            }
+            Unplanned::TooDear => Layer::Planner.fault(Refusal::CostTooHigh, 0),
+        }
     }
 }

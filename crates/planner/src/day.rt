@@ -1,62 +1,54 @@
 //! A day of trips, as the search sees it.
-ghost use Rattle.plans.specs.Terms.{day_of};
+ghost use Rattle.std.specs.Prelude.{◌≡◌, ◌≤◌};
+ghost use Rattle.board.specs.Standing.{Standing};
+ghost use Rattle.plans.specs.Terms.{day_of, yard_at};
 
 use crate::search::Costs;
+use plans::{Pricing, Terms};
 use rows::Rowed;
-use rules::Rule;
+use rules::{Rule, YardCents};
 use tariffs::Tariff;
 use trips::Trip;
 
-/// Trips in board order, with the rule, the tariff and the fee by which they are planned.
-#[derive(Clone, Copy)]
-pub(crate) struct Day<'a, R, T> {
-    pub(crate) trips: &'a [Trip],
-    pub(crate) rule: &'a R,
-    pub(crate) tariff: &'a T,
-    pub(crate) fee: u32,
+/// Trips that stand on a board, in board order, with the limit on their duties and the terms by which they are planned.
+#[derive(Drop)]
+pub(crate) struct Day<'d, 't, 'a, R, T> {
+    pub(crate) trips: &'d [Trip],
+    pub(crate) limit: u16,
+    pub(crate) terms: &'t Terms<'a, R, T>,
+    ghost standing: { Standing trips.now },
+    ghost limited: { limit ≤ 200 },
 }
 
-impl<R: Rule, T: Tariff> Costs for Day<'_, R, T> {
+impl<R: Rule, T: Tariff> Day<'_, '_, '_, R, T> {
+    /// The cents of the yard legs of the trip at a position; none where there is no trip, or the rule does not serve it.
+    fn yard(&self, i: usize) -> YardCents
+        ensures { result ≡ yard_at (R.Rule.yard self.now.terms.now.rule.now) self.now.trips.now i }
+    {
+        self.trips
+            .get(i)
+            .and_then(|trip| self.terms.rule.yard_cents(trip))
+            .unwrap_or(YardCents { out: 0, home: 0 })
+    }
+}
+
+impl<'a, R: Rule, T: Tariff> Costs for Day<'_, '_, 'a, R, T> {
     type Value = T::Value;
 
-    ghost net = { λ s. day_of (record {
-      yard = R.Rule.yard s.rule.now;
-      link = R.Rule.link s.rule.now;
-      places = T.Value.Rowed.count;
-      opens = T.Tariff.opens s.tariff.now;
-      links = T.Tariff.links s.tariff.now;
-      homes = T.Tariff.homes s.tariff.now;
-      fee = s.fee;
-    }) s.trips.now };
+    ghost net = { λ s. day_of (⟦<Terms<'a, R, T> as Pricing>⟧.terms s.terms.now) s.trips.now };
 
     fn link(&self, i: usize, j: usize) -> Option<T::Value> {
-        if i < self.trips.len() && j < self.trips.len() {
-            match self.rule.link_cents(&self.trips[i], &self.trips[j]) {
-                Some(cents) => Some(self.tariff.link(cents)),
-                None => None,
-            }
-        } else {
-            None
-        }
+        let from = self.trips.get(i)?;
+        let to = self.trips.get(j)?;
+        let cents = self.terms.rule.link_cents(from, to)?;
+        Some(self.terms.tariff.link(cents))
     }
 
     fn opening(&self, j: usize) -> T::Value {
-        let mut out = 0;
-        if j < self.trips.len() {
-            if let Some(yard) = self.rule.yard_cents(&self.trips[j]) {
-                out = yard.out;
-            }
-        }
-        self.tariff.opening(self.fee, out)
+        self.terms.tariff.opening(self.terms.fee, self.yard(j).out)
     }
 
     fn home(&self, i: usize) -> T::Value {
-        let mut home = 0;
-        if i < self.trips.len() {
-            if let Some(yard) = self.rule.yard_cents(&self.trips[i]) {
-                home = yard.home;
-            }
-        }
-        self.tariff.home(home)
+        self.terms.tariff.home(self.yard(i).home)
     }
 }

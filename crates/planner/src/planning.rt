@@ -1,18 +1,22 @@
 //! The plan of the trips that stand on a board.
 ghost use Rattle.std.specs.Prelude.{◌≡◌, ◌+◌, ◌*◌, ◌≤◌, false, length};
 ghost use Rattle.board.specs.Boards.{limit_of, trips_of};
-ghost use Rattle.board.specs.Standing.{Standing};
-ghost use Rattle.plans.specs.Answers.{Answers, too_short};
+ghost use Rattle.plans.specs.Answers.{Answers};
+ghost use Rattle.plans.specs.Lent.{SameTables, tables_of};
 ghost use Rattle.plans.specs.Terms.{day_of};
 ghost use Rattle.planner.specs.Answered.{Searched};
 ghost use Rattle.planner.specs.Outcomes.{Comes};
 
-use crate::checks::{fault_of, first_unserved, is_fee_high, is_short, not_served, refused};
+use crate::checks::{first_unserved, is_fee_high, is_short};
 use crate::day::Day;
 use crate::outcome::{Unplanned, outcome};
+use crate::search::bounded::BoundedCosts;
+use crate::search::links::Links;
+use crate::search::prices::Prices;
+use crate::search::tails::Tails;
 use board::Board;
-use faults::{Fault, Refusal};
-use plans::Plan;
+use faults::{Fault, Layer, Refusal};
+use plans::{Plan, Pricing, Tables, Terms};
 use rows::Rowed;
 use rules::Rule;
 use tariffs::Tariff;
@@ -20,27 +24,21 @@ use trips::Trip;
 
 /// Searches the day in parts of the work tables, into successors and prices with an entry for each trip.
 fn search_day<'a, R: Rule, T: Tariff>(
-    trips: &'a [Trip],
-    limit: u16,
-    rule: &'a R,
-    tariff: &'a T,
-    fee: u32,
+    day: &Day<'_, '_, 'a, R, T>,
     successors: &mut [u16],
     prices: &mut [T::Value],
     numbers: &mut [u16],
     values: &mut [T::Value],
 ) -> Result<Plan<T::Value>, Unplanned>
-    requires standing { Standing trips.now }
-    requires limited { limit ≤ 200 }
-    requires successors_long { length successors.old ≡ length trips.now }
-    requires prices_long { length prices.old ≡ length trips.now }
-    requires numbers_long { 4 * length trips.now ≤ length numbers.old }
-    requires values_long { 3 * length trips.now ≤ length values.old }
+    requires successors_long { length successors.old ≡ length day.now.trips.now }
+    requires prices_long { length prices.old ≡ length day.now.trips.now }
+    requires numbers_long { 4 * length day.now.trips.now ≤ length numbers.old }
+    requires values_long { 3 * length day.now.trips.now ≤ length values.old }
     ensures { Comes T.Value.Rowed.row T.Value.Rowed.count
-        (day_of (record { yard = R.Rule.yard rule.now; link = R.Rule.link rule.now; places = T.Value.Rowed.count; opens = T.Tariff.opens tariff.now; links = T.Tariff.links tariff.now; homes = T.Tariff.homes tariff.now; fee = fee }) trips.now)
-        limit successors.old prices.old result successors.new prices.new }
+        (day_of (⟦<Terms<'a, R, T> as Pricing>⟧.terms day.now.terms.now) day.now.trips.now)
+        day.now.limit successors.old prices.old result successors.new prices.new }
 {
-    let n = trips.len();
+    let n = day.trips.len();
     let (next, more) = numbers.split_at_mut(n);
     let (prior, more) = more.split_at_mut(n);
     let (reached, more) = more.split_at_mut(n);
@@ -48,108 +46,76 @@ fn search_day<'a, R: Rule, T: Tariff>(
     let (coming, rest) = values.split_at_mut(n);
     let (leaving, rest) = rest.split_at_mut(n);
     let (slack, _) = rest.split_at_mut(n);
-    let day = Day {
-        trips,
-        rule,
-        tariff,
-        fee,
-    };
     outcome(
-        &day,
-        usize::from(limit),
+        &BoundedCosts { costs: day },
+        day.limit,
         successors,
         prices,
-        next,
-        prior,
-        reached,
-        via,
-        coming,
-        leaving,
-        slack,
+        &mut Links { next, prior },
+        &mut Prices {
+            coming,
+            leaving,
+            hull: T::Value::zero(),
+        },
+        &mut Tails {
+            reached,
+            slack,
+            via,
+        },
     )
 }
 
 /// The same where the successors and the prices may have more entries: those past the trips stay as they were.
 fn search_fronts<'a, R: Rule, T: Tariff>(
-    trips: &'a [Trip],
-    limit: u16,
-    rule: &'a R,
-    tariff: &'a T,
-    fee: u32,
-    successors: &mut [u16],
-    prices: &mut [T::Value],
-    numbers: &mut [u16],
-    values: &mut [T::Value],
+    day: &Day<'_, '_, 'a, R, T>,
+    tables: &mut Tables<'_, T::Value>,
 ) -> Result<Plan<T::Value>, Unplanned>
-    requires standing { Standing trips.now }
-    requires limited { limit ≤ 200 }
-    requires successors_long { length trips.now ≤ length successors.old }
-    requires prices_long { length trips.now ≤ length prices.old }
-    requires numbers_long { 4 * length trips.now + 4 ≤ length numbers.old }
-    requires values_long { 4 * length trips.now + 4 ≤ length values.old }
-    ensures { Searched T.Value.Rowed.row
-        (record { yard = R.Rule.yard rule.now; link = R.Rule.link rule.now; places = T.Value.Rowed.count; opens = T.Tariff.opens tariff.now; links = T.Tariff.links tariff.now; homes = T.Tariff.homes tariff.now; fee = fee })
-        trips.now limit
-        (record { successors = successors.old; prices = prices.old; numbers = numbers.old; values = values.old })
+    requires successors_long { length day.now.trips.now ≤ length tables.old.successors.now }
+    requires prices_long { length day.now.trips.now ≤ length tables.old.prices.now }
+    requires numbers_long { 4 * length day.now.trips.now + 4 ≤ length tables.old.numbers.now }
+    requires values_long { 4 * length day.now.trips.now + 4 ≤ length tables.old.values.now }
+    ensures same { SameTables tables.old tables.new }
+    ensures answers { Searched T.Value.Rowed.row
+        (⟦<Terms<'a, R, T> as Pricing>⟧.terms day.now.terms.now)
+        day.now.trips.now day.now.limit
+        (tables_of tables.old)
         result
-        (record { successors = successors.new; prices = prices.new; numbers = numbers.new; values = values.new }) }
+        (tables_of tables.new) }
 {
-    let n = trips.len();
+    let n = day.trips.len();
     search_day(
-        trips,
-        limit,
-        rule,
-        tariff,
-        fee,
-        &mut successors[0..n],
-        &mut prices[0..n],
-        numbers,
-        values,
+        day,
+        &mut tables.successors[..n],
+        &mut tables.prices[..n],
+        tables.numbers,
+        tables.values,
     )
 }
 
 /// Tries what comes before any search, and then searches.
 fn answer<'a, R: Rule, T: Tariff>(
-    trips: &'a [Trip],
-    limit: u16,
-    rule: &'a R,
-    tariff: &'a T,
-    fee: u32,
-    successors: &mut [u16],
-    prices: &mut [T::Value],
-    numbers: &mut [u16],
-    values: &mut [T::Value],
+    day: &Day<'_, '_, 'a, R, T>,
+    tables: &mut Tables<'_, T::Value>,
 ) -> Result<Plan<T::Value>, Fault>
-    requires standing { Standing trips.now }
-    requires limited { limit ≤ 200 }
-    ensures { Answers T.Value.Rowed.row
-        (record { yard = R.Rule.yard rule.now; link = R.Rule.link rule.now; places = T.Value.Rowed.count; opens = T.Tariff.opens tariff.now; links = T.Tariff.links tariff.now; homes = T.Tariff.homes tariff.now; fee = fee })
-        trips.now limit
-        (record { successors = successors.old; prices = prices.old; numbers = numbers.old; values = values.old })
+    ensures same { SameTables tables.old tables.new }
+    ensures answers { Answers T.Value.Rowed.row
+        (⟦<Terms<'a, R, T> as Pricing>⟧.terms day.now.terms.now)
+        day.now.trips.now day.now.limit
+        (tables_of tables.old)
         result
-        (record { successors = successors.new; prices = prices.new; numbers = numbers.new; values = values.new }) }
+        (tables_of tables.new) }
 {
-    if let Some(k) = first_unserved(rule, trips) {
-        return Err(not_served(trips[k].number));
+    let trips = day.trips;
+    if let Some(k) = first_unserved(day.terms.rule, trips) {
+        return Err(Layer::Board.fault(Refusal::NotServed, usize::from(trips[k].number)));
     }
-    if is_short(
-        trips.len(),
-        successors.len(),
-        prices.len(),
-        numbers.len(),
-        values.len(),
-    ) {
-        return Err(refused(Refusal::TableTooShort, 0));
+    if is_short(tables, trips.len()) {
+        return Err(Layer::Planner.fault(Refusal::TableTooShort, 0));
     }
-    if is_fee_high(fee) {
-        return Err(refused(Refusal::FeeTooHigh, 0));
+    if is_fee_high(day.terms.fee) {
+        return Err(Layer::Planner.fault(Refusal::FeeTooHigh, 0));
     }
-    match search_fronts(
-        trips, limit, rule, tariff, fee, successors, prices, numbers, values,
-    ) {
-        Ok(plan) => Ok(plan),
-        Err(why) => Err(fault_of(why)),
-    }
+    Ok(search_fronts(day, tables)?)
 }
 
 /// Plans the trips that stand on the board, within its limit: the cheapest duties by the rule, the tariff and the
@@ -158,31 +124,22 @@ fn answer<'a, R: Rule, T: Tariff>(
 /// for the work tables (`numbers` and `values`) where hulls are too few or the cost is too high. Neither the
 /// board nor anything else is altered, and no memory is asked for.
 pub fn plan<'a, R: Rule, T: Tariff>(
-    board: &'a Board,
-    rule: &'a R,
-    tariff: &'a T,
-    fee: u32,
-    successors: &mut [u16],
-    prices: &mut [T::Value],
-    numbers: &mut [u16],
-    values: &mut [T::Value],
+    board: &Board,
+    terms: &Terms<'a, R, T>,
+    tables: &mut Tables<'_, T::Value>,
 ) -> Result<Plan<T::Value>, Fault>
-    ensures { Answers T.Value.Rowed.row
-        (record { yard = R.Rule.yard rule.now; link = R.Rule.link rule.now; places = T.Value.Rowed.count; opens = T.Tariff.opens tariff.now; links = T.Tariff.links tariff.now; homes = T.Tariff.homes tariff.now; fee = fee })
+    ensures same { SameTables tables.old tables.new }
+    ensures answers { Answers T.Value.Rowed.row
+        (⟦<Terms<'a, R, T> as Pricing>⟧.terms terms.now)
         (trips_of board.now) (limit_of board.now)
-        (record { successors = successors.old; prices = prices.old; numbers = numbers.old; values = values.old })
+        (tables_of tables.old)
         result
-        (record { successors = successors.new; prices = prices.new; numbers = numbers.new; values = values.new }) }
+        (tables_of tables.new) }
 {
-    answer(
-        board.trips(),
-        board.limit(),
-        rule,
-        tariff,
-        fee,
-        successors,
-        prices,
-        numbers,
-        values,
-    )
+    let day = Day {
+        trips: board.trips(),
+        limit: board.limit(),
+        terms,
+    };
+    answer(&day, tables)
 }

@@ -2,5 +2,9 @@
 #![tactic(auto)]
 
 mod plan;
+mod tables;
+mod terms;
 
 pub use plan::Plan;
+pub use tables::Tables;
+pub use terms::{Pricing, Terms};

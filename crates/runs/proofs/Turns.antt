@@ -1,7 +1,8 @@
 -- One call more of a run.
-use Rattle.std.proofs.Common.{◌≡◌, ℕ, ◌+◌, ◌-◌, ◌<◌, List, [], ◌∷◌, ◌++◌, length, get_or, take, ℤ, Result, sym, refl, ap, ◌∙◌, subst, ⊎_elim, arith}
-use Rattle.std.specs.List.{FoldsTo}
-use Rattle.std.proofs.lemmas.List.{length-append, get_or_append_left, get_or-append_right}
+use Rattle.std.proofs.Common.{◌≡◌, ℕ, ◌+◌, ◌<◌, List, [], ◌∷◌, ◌++◌, length, get_or, take, ℤ, Result, sym, refl, ap, ◌∙◌, subst, ⊎_elim, arith}
+use Rattle.std.proofs.lemmas.List.{length-append, get_or_append_left}
+use Rattle.std.proofs.lemmas.Fn.{FoldsTo-push}
+use Rattle.std.proofs.Math.Seq.{get_or-append_seam}
 use Rattle.std.proofs.lemmas.Bool.{cases_lt}
 use Rattle.faults.specs.declared.fault.Fault.{Fault}
 use Rattle.trips.specs.declared.trip.Trip.{Trip}
@@ -62,13 +63,9 @@ right_at row terms call last now' ts ts' limit limit' numbers numbers' values va
 
 -- ---- one thing more heard
 
-chained_push : {S X : Type 0} (R : S → X → S → Type 0) (s : S) (xs : List X) (t : S) (x : X) (u : S) → FoldsTo R s xs t → R t x u → FoldsTo R s (xs ++ (x ∷ [])) u
-chained_push R s [] t x u p r = (u, subst (λ y. R y x u) (sym p) r, refl)
-chained_push R s (y ∷ ys) t x u p r = (p.0, p.1, chained_push R p.0 ys t x u p.2 r)
-
 -- the last of a list with one thing more
 at_last : {X : Type 0} (xs : List X) (x d : X) (k : ℕ) → length xs ≡ k → get_or (xs ++ (x ∷ [])) k d ≡ x
-at_last xs x d k e = get_or-append_right xs (x ∷ []) k k d e (omega arith) ∙ ap (λ i. get_or (x ∷ []) i d) (let z : k - k ≡ 0 = omega arith in z)
+at_last xs x d k e = ap (λ i. get_or (xs ++ (x ∷ [])) i d) (sym e) ∙ get_or-append_seam xs x [] d
 
 module _ {V : Type 0} (row : V → List ℤ) (terms : Terms) (numbers values : ℕ) (calls : List Call) (start : Heard V) where
   -- what is right at place k, of what was heard from the start on
@@ -110,7 +107,7 @@ module _ {V : Type 0} (row : V → List ℤ) (terms : Terms) (numbers values : �
       let last = sym (at_last (start ∷ p.heard) h start (m + 1) (omega arith)) in
       record {
         heard = p.heard ++ (h ∷ []);
-        chain = chained_push told s p.heard t h u p.chain step;
+        chain = FoldsTo-push told s p.heard t h u p.chain step;
         all_right = upto_more m p.heard h p.all_right (right' (get_or (start ∷ p.heard) m start) p.last_successors p.last_prices) trips';
         last_successors = ap (λ x. x.successors) last;
         last_prices = ap (λ x. x.prices) last;

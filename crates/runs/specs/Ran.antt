@@ -1,11 +1,11 @@
 -- The whole promise: what a run of calls on a new board tells. Assumes nothing.
-use Rattle.std.specs.Prelude.{◌≡◌, ℕ, ◌+◌, ◌<◌, List, [], ◌∷◌, length, get_or, take, ℤ, slice_index_or}
+use Rattle.std.specs.Prelude.{◌≡◌, ℕ, ◌+◌, ◌<◌, List, [], ◌∷◌, length, get_or, take, ℤ, Ok, slice_index_or}
 use Rattle.std.specs.List.{FoldsTo}
 use Rattle.board.specs.declared.board.Board.{Board}
 use Rattle.board.specs.Boards.{trips_of, limit_of}
 use Rattle.plans.specs.Terms.{Terms}
 use Rattle.calls.specs.declared.call.Call.{Call}
-use Rattle.calls.specs.declared.answer.Answer.TheVariants.{Done}
+use Rattle.calls.specs.declared.answer.Done.TheVariants.{Altered}
 use Rattle.calls.specs.Standing.{standing, limit_after, no_call}
 use Rattle.history.specs.History.{ByHistory}
 use Rattle.runs.specs.Heard.{Heard}
@@ -13,7 +13,7 @@ use Rattle.runs.specs.Right.{Right}
 
 -- what stands before any call: no trips, and what the tables were given with
 abbrev pub at_start : {V : Type 0} → List ℕ → List V → Heard V
-at_start successors prices = record { answer = Done; trips = []; successors = successors; prices = prices }
+at_start successors prices = record { answer = Ok Altered; trips = []; successors = successors; prices = prices }
 
 -- Of the first m calls these things are heard, one for each, in order. At each place k it is what is right of call k, where the trips stand and the limit is in force
 -- that the calls before it lead to, and the tables hold what was heard before it; and the trips heard are those that stand after it.

@@ -8,8 +8,7 @@ use Rattle.plans.specs.Terms.{Terms}
 use Rattle.plans.specs.Answers.{Tables, Answers}
 use Rattle.calls.specs.declared.call.Call.{Call}
 use Rattle.calls.specs.declared.call.Call.TheVariants.{Add, Withdraw, SetLimit, Plan as a_plan}
-use Rattle.calls.specs.declared.answer.Answer.{Answer}
-use Rattle.runs.specs.Heard.{done, planned}
+use Rattle.runs.specs.Heard.{Answer, done, planned}
 
 -- a call that alters the board leaves the tables
 abbrev pub Leaves : {V : Type 0} → Result (Unit {0}) Fault → Tables V → Answer V → Tables V → Type 0

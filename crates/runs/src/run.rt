@@ -1,41 +1,37 @@
 //! A list of calls on a new board.
 ghost use Rattle.std.specs.Prelude.{◌≡◌, [], length};
 ghost use Rattle.board.specs.Boards.{limit_of, trips_of};
+ghost use Rattle.plans.specs.Lent.{SameTables};
 ghost use Rattle.runs.specs.Ran.{at_start, Ran};
 
 use crate::listener::Listener;
 use crate::obey::obey;
 use board::{Board, NewBoard};
 use calls::Call;
+use plans::{Pricing, Tables, Terms};
 use rows::Rowed;
 use rules::Rule;
 use tariffs::Tariff;
 
 /// Does the calls on the board, one after the other, and lets the listener hear of each.
-fn run<R: Rule, T: Tariff, L: Listener<T::Value>>(
+fn run<'a, R: Rule, T: Tariff, L: Listener<T::Value>>(
     board: &mut Board,
-    rule: &R,
-    tariff: &T,
-    fee: u32,
+    terms: &Terms<'a, R, T>,
     calls: &[Call],
-    successors: &mut [u16],
-    prices: &mut [T::Value],
-    numbers: &mut [u16],
-    values: &mut [T::Value],
+    tables: &mut Tables<'_, T::Value>,
     listener: &mut L,
 )
     requires trips { trips_of board.old ≡ [] }
     requires limit { limit_of board.old ≡ 0 }
-    ensures { Ran L.Listener.told T.Value.Rowed.row
-        (record { yard = R.Rule.yard rule.now; link = R.Rule.link rule.now; places = T.Value.Rowed.count; opens = T.Tariff.opens tariff.now; links = T.Tariff.links tariff.now; homes = T.Tariff.homes tariff.now; fee = fee })
-        (length numbers.old) (length values.old) calls.now (at_start successors.old prices.old)
-        listener.old listener.new successors.new prices.new board.new }
+    ensures same { SameTables tables.old tables.new }
+    ensures ran { Ran L.Listener.told T.Value.Rowed.row
+        (⟦<Terms<'a, R, T> as Pricing>⟧.terms terms.now)
+        (length tables.old.numbers.now) (length tables.old.values.now) calls.now (at_start tables.old.successors.now tables.old.prices.now)
+        listener.old listener.new tables.new.successors.now tables.new.prices.now board.new }
 {
     for call in calls {
-        let answer = obey(
-            board, rule, tariff, fee, *call, successors, prices, numbers, values,
-        );
-        listener.hear(&answer, board.trips(), successors, prices);
+        let answer = obey(board, terms, *call, tables);
+        listener.hear(&answer, board.trips(), tables);
     }
 }
 
@@ -53,26 +49,20 @@ fn run<R: Rule, T: Tariff, L: Listener<T::Value>>(
 ///   what was heard last.
 ///
 /// There is no other way out: no memory is asked for, and the listener cannot end the run.
-pub fn run_calls<R: Rule, T: Tariff, L: Listener<T::Value>>(
+pub fn run_calls<'a, R: Rule, T: Tariff, L: Listener<T::Value>>(
     board: NewBoard,
-    rule: &R,
-    tariff: &T,
-    fee: u32,
+    terms: &Terms<'a, R, T>,
     calls: &[Call],
-    successors: &mut [u16],
-    prices: &mut [T::Value],
-    numbers: &mut [u16],
-    values: &mut [T::Value],
+    tables: &mut Tables<'_, T::Value>,
     listener: &mut L,
 ) -> Board
-    ensures { Ran L.Listener.told T.Value.Rowed.row
-        (record { yard = R.Rule.yard rule.now; link = R.Rule.link rule.now; places = T.Value.Rowed.count; opens = T.Tariff.opens tariff.now; links = T.Tariff.links tariff.now; homes = T.Tariff.homes tariff.now; fee = fee })
-        (length numbers.old) (length values.old) calls.now (at_start successors.old prices.old)
-        listener.old listener.new successors.new prices.new result }
+    ensures same { SameTables tables.old tables.new }
+    ensures ran { Ran L.Listener.told T.Value.Rowed.row
+        (⟦<Terms<'a, R, T> as Pricing>⟧.terms terms.now)
+        (length tables.old.numbers.now) (length tables.old.values.now) calls.now (at_start tables.old.successors.now tables.old.prices.now)
+        listener.old listener.new tables.new.successors.now tables.new.prices.now result }
 {
     let mut board = board.into_board();
-    run(
-        &mut board, rule, tariff, fee, calls, successors, prices, numbers, values, listener,
-    );
+    run(&mut board, terms, calls, tables, listener);
     board
 }

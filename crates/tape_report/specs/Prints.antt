@@ -1,12 +1,11 @@
 -- What is printed of calls, and of a tape. Assumes nothing.
-use Rattle.std.specs.Prelude.{◌≡◌, ℕ, false, List, ◌++◌, length, ℤ, string_bytes, Option}
+use Rattle.std.specs.Prelude.{◌≡◌, ℕ, List, ◌++◌, length, ℤ, Option}
 use Rattle.faults.specs.declared.fault.Fault.{Fault}
 use Rattle.calls.specs.declared.call.Call.{Call}
 use Rattle.plans.specs.Terms.{Terms}
 use Rattle.runs.specs.Heard.{Heard}
 use Rattle.runs.specs.Ran.{at_start, RightUpto}
 use Rattle.tape_calls.specs.Calls.{HoldsCalls}
-use Rattle.tape_report.specs.declared.page.Page.{Page}
 use Rattle.tape_report.specs.Texts.{heard_texts, fault_last}
 
 -- The lines of calls on a new board, of each what is right to hear of it. The tables have room for the 200 trips of a full board.
@@ -18,10 +17,6 @@ pub record CallLines {V : Type 0} (row : V → List ℤ) (terms : Terms) (calls 
   pub heard : List (Heard V)
   pub all_right : RightUpto row terms 804 804 calls (at_start successors prices) (length calls) heard
   pub text_is : text ≡ heard_texts row heard
-
--- a page with room has those lines
-abbrev pub CallsPrint : {V : Type 0} → (V → List ℤ) → Terms → List Call → Page → Type 0
-CallsPrint row terms calls page = page.full ≡ false → CallLines row terms calls (string_bytes page.text)
 
 -- The lines of the calls that a tape holds, and then the line of its fault.
 pub record TapePrints {V : Type 0} (row : V → List ℤ) (terms : Terms) (tape text : List ℕ) : Type 0 where

@@ -1,31 +1,20 @@
 //! The page that answers are written on.
-ghost use Rattle.std.specs.Prelude.{◌≡◌, false, ◌++◌, take, string_bytes, OnOk};
-ghost use Rattle.tape_report.specs.Texts.{answer_text, heard_text};
+ghost use Rattle.std.specs.Prelude.{◌≡◌, ◌++◌, Ok, string_bytes, OnOk};
+ghost use Rattle.tape_report.specs.Texts.{Added, answer_text, heard_text};
 
-use calls::Answer;
+use calls::{Answer, Done};
 use plan_report::PlanLines;
-use plans::Plan;
+use plans::{Plan, Tables};
 use rows::Rowed;
 use runs::Listener;
 use std::alloc::AllocError;
 use trips::Trip;
 
-/// Text to which each answer's lines are added as it is heard.
+/// Text to which each answer's lines are added as it is heard. Once there was no memory for some line, there is no text, and
+/// nothing is added any more.
 #[derive(Drop)]
 pub(crate) struct Page {
-    pub(crate) text: String,
-    /// Whether there was no memory for some line. Nothing is added after that.
-    pub(crate) full: bool,
-}
-
-/// The first entries of a table, or the whole table where it has no more.
-fn front(table: &[u16], count: usize) -> &[u16]
-    ensures { result.now ≡ take count table.now }
-{
-    if count >= table.len() {
-        return table;
-    }
-    &table[0..count]
+    pub(crate) text: Result<String, AllocError>,
 }
 
 /// Adds the lines of a plan.
@@ -35,9 +24,9 @@ fn write_plan<V: Rowed>(
     trips: &[Trip],
     successors: &[u16],
 ) -> Result<(), AllocError>
-    ensures { OnOk result (string_bytes text.new ≡ string_bytes text.old ++ answer_text V.Rowed.row (Answer.Planned plan.now) trips.now successors.now) }
+    ensures { OnOk result (string_bytes text.new ≡ string_bytes text.old ++ answer_text V.Rowed.row (Ok (Done.Planned plan.now)) trips.now successors.now) }
 {
-    let planned = front(successors, trips.len());
+    let planned = &successors[..successors.len().min(trips.len())];
     let lines = PlanLines::new(planned, trips, plan.duties, plan.cost);
     write!(text, "{lines}")
 }
@@ -52,19 +41,21 @@ fn write_answer<V: Rowed>(
     ensures { OnOk result (string_bytes text.new ≡ string_bytes text.old ++ answer_text V.Rowed.row answer.now trips.now successors.now) }
 {
     match answer {
-        Answer::Done => writeln!(text, "ok"),
-        Answer::Refused(fault) => writeln!(text, "{fault}"),
-        Answer::Planned(plan) => write_plan(text, plan, trips, successors),
+        Ok(Done::Altered) => writeln!(text, "ok"),
+        Ok(Done::Planned(plan)) => write_plan(text, plan, trips, successors),
+        Err(fault) => writeln!(text, "{fault}"),
     }
 }
 
 impl<V: Rowed> Listener<V> for Page {
-    ghost told = { λ s h t. (t.full ≡ false → (s.full ≡ false) × (string_bytes t.text ≡ string_bytes s.text ++ heard_text V.Rowed.row h)) };
+    ghost told = { λ s h t. Added string_bytes s.text t.text (heard_text V.Rowed.row h) };
 
-    fn hear(&mut self, answer: &Answer<V>, trips: &[Trip], successors: &[u16], _prices: &[V]) {
-        if self.full {
+    fn hear(&mut self, answer: &Answer<V>, trips: &[Trip], tables: &Tables<'_, V>) {
+        let Ok(text) = &mut self.text else {
             return;
+        };
+        if let Err(error) = write_answer(text, answer, trips, tables.successors) {
+            self.text = Err(error);
         }
-        self.full = write_answer(&mut self.text, answer, trips, successors).is_err();
     }
 }

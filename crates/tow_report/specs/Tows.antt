@@ -1,7 +1,9 @@
 -- What the program tow prints. Assumes nothing.
 use Rattle.std.specs.Prelude.{◌≡◌, ℕ, ◌+◌, ◌⊎◌, List, [], ◌∷◌, pos, Some}
 use Rattle.faults.specs.declared.fault.Fault.{Fault}
+use Rattle.faults.specs.Shown.{fault_line}
 use Rattle.rules.specs.Caps.{capped_link}
+use Rattle.rules.specs.declared.rule.YardCents.{YardCents}
 use Rattle.rows.specs.declared.row.Row.{Row}
 use Rattle.tariffs.specs.Charges.{capped}
 use Rattle.tow_sheets.specs.declared.links.Link.{Link}
@@ -9,22 +11,24 @@ use Rattle.tow_sheets.specs.declared.charges.Charges.{Charges}
 use Rattle.tow_rule.specs.Listed.{listed_link}
 use Rattle.tow_inputs.specs.Rules.{Sound, FirstFault}
 use Rattle.plans.specs.Terms.{Terms}
-use Rattle.tape_report.specs.Texts.{line_of_fault}
 use Rattle.tape_report.specs.Prints.{TapePrints}
 
--- The terms of the tow office, by its charges and its links: every trip is served, at the two sums of the charges sheet; a link is one that is listed with a fitting gap, and
--- whose gap is at most the crew's 480 minutes; rows are cents, and the fee is that of the charges sheet.
-abbrev pub tow_terms : Charges → List Link → Terms
-tow_terms charges links =
+-- Terms by which every trip is served, at these yard legs; a link is one that is listed with a fitting gap, and whose gap is at most the cap; rows are cents.
+abbrev pub terms_of : YardCents → List Link → ℕ → ℕ → Terms
+terms_of yard links cap fee =
     record {
-      yard = λ t. Some (record { out = charges.out; home = charges.home });
-      link = λ a b. capped_link 480 a b (listed_link links a b);
+      yard = λ t. Some yard;
+      link = λ a b. capped_link cap a b (listed_link links a b);
       places = 1;
-      opens = λ fee cents. pos (capped fee + capped cents) ∷ [];
+      opens = λ f cents. pos (capped f + capped cents) ∷ [];
       links = λ cents. pos (capped cents) ∷ [];
       homes = λ cents. pos (capped cents) ∷ [];
-      fee = charges.fee;
+      fee = fee;
     }
+
+-- The terms of the tow office, by its charges and its links: the yard legs at the two sums of the charges sheet, the crew's 480 minutes, and the fee of the charges sheet.
+abbrev pub tow_terms : Charges → List Link → Terms
+tow_terms charges links = terms_of (record { out = charges.out; home = charges.home }) links 480 charges.fee
 
 -- where neither sheet has a fault: what is printed of the tape, by what they say
 pub record TapeLines (charges links tape text : List ℕ) : Type 0 where
@@ -35,4 +39,4 @@ pub record TapeLines (charges links tape text : List ℕ) : Type 0 where
 
 -- The text printed for the bytes of the charges sheet, the links sheet and the tape: the line of the first fault of the two sheets, or what is printed of the tape.
 abbrev pub TowPrints : List ℕ → List ℕ → List ℕ → List ℕ → Type 0
-TowPrints charges links tape text = ((fault : Fault) × FirstFault charges links 2000 fault × (text ≡ line_of_fault fault)) ⊎ TapeLines charges links tape text
+TowPrints charges links tape text = ((fault : Fault) × FirstFault charges links 2000 fault × (text ≡ fault_line fault)) ⊎ TapeLines charges links tape text

@@ -1,38 +1,44 @@
 //! The tow program, put together.
-ghost use Rattle.std.specs.Prelude.{◌≡◌, [], ◌∷◌, ◌++◌, IfOk, string_bytes};
-ghost use Rattle.tape_report.specs.Texts.{line_of_fault};
-ghost use Rattle.tow_report.specs.Tows.{TowPrints};
+ghost use Rattle.std.specs.Prelude.{◌≡◌, IfOk, string_bytes};
+ghost use Rattle.rows.specs.declared.row.Row.{Row};
+ghost use Rattle.tape_report.specs.Prints.{TapePrints};
+ghost use Rattle.tow_report.specs.Tows.{terms_of, TowPrints};
 
-use faults::Fault;
+use plans::Terms;
 use rules::Cap;
 use std::alloc::{AllocError, Global};
 use tape_report::tape_lines;
 use tariffs::Cents;
 use tow_inputs::remake_from_sheets;
 use tow_rule::{TowRule, Unmade};
-use tow_sheets::Link;
+use tow_sheets::{Charges, Link, MOST_LINKS};
 
 /// A crew waits for at most so many minutes.
 const CREW_CAP: u16 = 480;
 
-/// The links sheet has at most so many records.
-const MOST_LINKS: usize = 2000;
-
-/// What stands in the table of links before any is read.
-const NO_LINK: Link = Link {
-    number: 0,
-    tail: 0,
-    head: 0,
-    lower: 0,
-    upper: 0,
-    cost: 0,
-};
-
-/// The line of a fault.
-fn fault_line(heap: Global, fault: Fault) -> Result<String, AllocError>
-    ensures { IfOk result (λ text. string_bytes text ≡ line_of_fault fault) }
+/// The tow rule under the crew cap.
+fn crewed<'a>(rule: TowRule<'a>) -> Cap<TowRule<'a>>
+    ensures below { result.below ≡ rule.entry }
+    ensures cap { result.cap ≡ 480 }
 {
-    format!(in heap; "{fault}\n")
+    Cap::new(rule, CREW_CAP)
+}
+
+/// The lines of a tape by a capped tow rule, in cents and with the fee of the charges.
+fn lines_by(
+    heap: Global,
+    rule: &Cap<TowRule<'_>>,
+    charges: Charges,
+    tape: &[u8],
+) -> Result<String, AllocError>
+    ensures { IfOk result (λ text. TapePrints {V = Row 1} (λ r. r.places) (terms_of rule.now.below.yard rule.now.below.listed.links.now rule.now.cap charges.fee) tape.now (string_bytes text)) }
+{
+    let terms = Terms {
+        rule,
+        tariff: &Cents,
+        fee: charges.fee,
+    };
+    tape_lines(heap, &terms, tape)
 }
 
 /// The lines that are printed for the bytes of the charges sheet, the links sheet and the tape: by the tow rule under the
@@ -45,11 +51,12 @@ pub fn tow_lines(
 ) -> Result<String, AllocError>
     ensures { IfOk result (λ text. TowPrints charges.now links.now tape.now (string_bytes text)) }
 {
-    let mut table = [NO_LINK; MOST_LINKS];
+    // The records of the links sheet lie in a table that is lent to the reader.
+    let mut table = [Link::default(); MOST_LINKS];
     let mut rule = TowRule::new(heap);
     match remake_from_sheets(&mut rule, charges, links, &mut table) {
-        Ok(sums) => tape_lines(heap, &Cap::new(rule, CREW_CAP), &Cents, sums.fee, tape),
-        Err(Unmade::Refused(fault)) => fault_line(heap, fault),
+        Ok(sums) => lines_by(heap, &crewed(rule), sums, tape),
+        Err(Unmade::Refused(fault)) => fault.line(heap),
         Err(Unmade::NoMemory) => Err(AllocError),
     }
 }

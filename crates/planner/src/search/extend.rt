@@ -1,68 +1,48 @@
 //! Tail after tail is reached.
 ghost use Rattle.std.specs.Prelude.{◌≡◌, ◌≤◌, true, length, pos, ◌≤ℤ◌};
 ghost use Rattle.rows.specs.Places.{weight};
-ghost use Rattle.matchings.specs.Rowed.{Bounded};
-ghost use Rattle.matchings.specs.Growths.{Stands, Growing};
-ghost use Rattle.planner.specs.Searches.{Extended};
+ghost use Rattle.planner.specs.Searches.{trips, AreBorneOut, IsGrown, Extended};
 
-use super::NONE;
+use super::bounded::BoundedCosts;
 use super::costs::Costs;
 use super::least::least;
+use super::links::Links;
+use super::prices::Prices;
 use super::reach::reach;
 use super::stop::is_over;
-use rows::Rowed;
-
-/// How far the reached tails go.
-#[derive(Clone, Copy)]
-pub(crate) enum Growth {
-    /// A tail without a head is reached.
-    Free(usize),
-    /// No other tail can be reached.
-    DeadEnd,
-    /// No raise that keeps the hull price at or below zero reaches another tail.
-    Dear,
-}
+use super::stuck::Stuck;
+use super::tails::Tails;
 
 /// Reaches one tail after the other, up to one without a head. Where the duties are within the limit, the hull price stays at or
 /// below zero.
 pub(crate) fn extend<C: Costs>(
-    costs: &C,
+    day: &BoundedCosts<C>,
     within: bool,
-    next: &[u16],
-    prior: &[u16],
-    coming: &mut [C::Value],
-    leaving: &mut [C::Value],
-    hull: &mut C::Value,
-    reached: &mut [u16],
-    slack: &mut [C::Value],
-    via: &mut [u16],
-) -> Growth
-    requires bounded { Bounded C.Value.Rowed.count (C.Costs.net costs.now) }
-    requires few { length next.now ≤ 4000 }
-    requires stands { Stands C.Value.Rowed.row (C.Costs.net costs.now) (length next.now) next.now prior.now coming.old leaving.old hull.old }
-    requires growing { Growing C.Value.Rowed.row (C.Costs.net costs.now) (length next.now) next.now prior.now reached.old via.old coming.old leaving.old slack.old hull.old 0 }
-    requires low { within ≡ true → weight (C.Value.Rowed.row hull.old) ≤ℤ pos 0 }
-    ensures stands { Stands C.Value.Rowed.row (C.Costs.net costs.now) (length next.now) next.now prior.now coming.new leaving.new hull.new }
-    ensures low { within ≡ true → weight (C.Value.Rowed.row hull.new) ≤ℤ pos 0 }
-    ensures found { Extended C.Value.Rowed.row (C.Costs.net costs.now) (length next.now) next.now prior.now reached.new via.new coming.new leaving.new slack.new hull.new within result }
+    links: &Links,
+    prices: &mut Prices<C::Value>,
+    tails: &mut Tails<C::Value>,
+) -> Result<usize, Stuck>
+    requires borne { AreBorneOut C.Value.Rowed.row (C.Costs.net day.now.costs.now) links.now prices.old }
+    requires grown { IsGrown C.Value.Rowed.row (C.Costs.net day.now.costs.now) links.now prices.old tails.old 0 }
+    requires low { within ≡ true → weight (C.Value.Rowed.row prices.old.hull) ≤ℤ pos 0 }
+    ensures tails_long { length tails.new.reached.now ≡ length tails.old.reached.now }
+    ensures borne { AreBorneOut C.Value.Rowed.row (C.Costs.net day.now.costs.now) links.now prices.new }
+    ensures low { within ≡ true → weight (C.Value.Rowed.row prices.new.hull) ≤ℤ pos 0 }
+    ensures extended { Extended C.Value.Rowed.row (C.Costs.net day.now.costs.now) links.now prices.new tails.new within result }
 {
     let mut t = 0u16;
-    'tails: loop {
-        let Some(i) = least(reached, slack, via) else {
-            if within {
-                return Growth::Dear;
-            }
-            return Growth::DeadEnd;
-        };
-        if within && is_over(*hull, slack[i]) {
-            return Growth::Dear;
+    while let Some(i) = least(tails) {
+        if within && is_over(prices.hull, tails.slack[i]) {
+            return Err(Stuck::Dear);
         }
-        reach(
-            costs, i, t, next, prior, coming, leaving, hull, reached, slack, via,
-        );
-        if next[i] == NONE {
-            return Growth::Free(i);
+        reach(day, i, t, links, prices, tails);
+        if links.head_of(i).is_none() {
+            return Ok(i);
         }
         t += 1;
     }
+    if within {
+        return Err(Stuck::Dear);
+    }
+    Err(Stuck::DeadEnd)
 }

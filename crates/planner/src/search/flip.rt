@@ -3,31 +3,30 @@ ghost use Rattle.std.specs.Prelude.{◌≡◌, ◌<◌, length};
 ghost use Rattle.matchings.specs.Tables.{at};
 ghost use Rattle.matchings.specs.Sound.{Matching};
 ghost use Rattle.matchings.specs.Flips.{Climb, Flipped};
+ghost use Rattle.planner.specs.Searches.{trips};
 
-use super::NONE;
+use super::links::Links;
+use super::tails::Tails;
 
 /// Links the tail `last`, which is reached and has no head, to the head by which it was reached. The tail that loses
 /// this head takes the one by which it was reached itself, and so on, to a head that had no tail.
-pub(crate) fn flip(last: usize, reached: &[u16], via: &[u16], next: &mut [u16], prior: &mut [u16])
-    requires few { length reached.now < 65535 }
-    requires via_long { length via.now ≡ length reached.now }
-    requires within { last < length reached.now }
-    requires numbered { at reached.now last < 65535 }
-    requires loose { at next.old last ≡ 65535 }
-    requires matching { Matching (length reached.now) next.old prior.old }
-    requires climb { Climb (length reached.now) prior.old reached.now via.now (at reached.now last) }
-    ensures { Flipped (length reached.now) reached.now via.now next.old prior.old next.new prior.new }
+pub(crate) fn flip<V>(last: usize, tails: &Tails<V>, links: &mut Links)
+    requires tails_long { length tails.now.reached.now ≡ trips links.old }
+    requires within { last < trips links.old }
+    requires numbered { at tails.now.reached.now last < 65535 }
+    requires loose { at links.old.next.now last ≡ 65535 }
+    requires matching { Matching (trips links.old) links.old.next.now links.old.prior.now }
+    requires climb { Climb (trips links.old) links.old.prior.now tails.now.reached.now tails.now.via.now (at tails.now.reached.now last) }
+    ensures { Flipped (trips links.old) tails.now.reached.now tails.now.via.now links.old.next.now links.old.prior.now links.new.next.now links.new.prior.now }
 {
     let mut i = last;
-    'walk: loop {
-        let j = via[i];
-        let p = prior[j as usize];
-        next[i] = j;
-        prior[j as usize] = i as u16;
-        if p == NONE {
+    'walk: while let Some(j) = tails.via_of(i) {
+        let loser = links.tail_of(j);
+        links.link(i, j);
+        let Some(k) = loser else {
             return;
-        }
-        i = p as usize;
-        next[i] = NONE;
+        };
+        links.take_head(k);
+        i = k;
     }
 }

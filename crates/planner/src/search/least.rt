@@ -1,29 +1,24 @@
 //! The tail that is reached next.
-ghost use Rattle.std.specs.Prelude.{◌≡◌, length};
-ghost use Rattle.matchings.specs.Tables.{Least};
-ghost use Rattle.matchings.specs.Rowed.{weights};
+ghost use Rattle.std.specs.Prelude.{◌≡◌};
+ghost use Rattle.planner.specs.Searches.{IsLeast};
 
-use super::NONE;
+use super::tails::Tails;
 use rows::Rowed;
 
 /// A tail of least slack among those that are not reached and have a link to a reached head.
-pub(crate) fn least<V: Rowed>(reached: &[u16], slack: &[V], via: &[u16]) -> Option<usize>
-    requires slack_long { length slack.now ≡ length reached.now }
-    requires via_long { length via.now ≡ length reached.now }
-    ensures { Least reached.now (weights V.Rowed.row slack.now) via.now (length reached.now) result }
+pub(crate) fn least<V: Rowed>(tails: &Tails<V>) -> Option<usize>
+    ensures { IsLeast V.Rowed.row tails.now result }
 {
     let mut best: Option<usize> = None;
-    for i in 0..reached.len() {
-        if reached[i] == NONE && via[i] != NONE {
+    for (i, slack) in tails.slack.iter().enumerate() {
+        if tails.is_open(i) {
             match best {
                 Some(m) => {
-                    if slack[i].is_below(slack[m]) {
+                    if slack.is_below(tails.slack[m]) {
                         best = Some(i);
                     }
                 }
-                None => {
-                    best = Some(i);
-                }
+                None => best = Some(i),
             }
         }
     }

@@ -1,36 +1,32 @@
 //! The raise that ends the search.
 ghost use Rattle.std.specs.Prelude.{◌≡◌, ◌≤◌, length, pos, ◌≤ℤ◌};
 ghost use Rattle.rows.specs.Places.{weight};
-ghost use Rattle.matchings.specs.Rowed.{Bounded};
-ghost use Rattle.matchings.specs.Growths.{Stands, Rests, Halt};
+ghost use Rattle.planner.specs.Searches.{trips, AreBorneOut, AreCalm, IsHalted};
 
+use super::bounded::BoundedCosts;
 use super::costs::Costs;
-use super::raise::{raise_heads, raise_tails};
+use super::links::Links;
+use super::prices::Prices;
+use super::raise::raise;
+use super::tails::Tails;
 use rows::Rowed;
 
 /// Raises so far that the hull price is zero, where this reaches no other tail.
 pub(crate) fn settle<C: Costs>(
-    costs: &C,
-    next: &[u16],
-    prior: &[u16],
-    reached: &[u16],
-    via: &[u16],
-    coming: &mut [C::Value],
-    leaving: &mut [C::Value],
-    hull: &mut C::Value,
-    slack: &mut [C::Value],
+    day: &BoundedCosts<C>,
+    links: &Links,
+    prices: &mut Prices<C::Value>,
+    tails: &mut Tails<C::Value>,
 )
-    requires bounded { Bounded C.Value.Rowed.count (C.Costs.net costs.now) }
-    requires few { length next.now ≤ 4000 }
-    requires stands { Stands C.Value.Rowed.row (C.Costs.net costs.now) (length next.now) next.now prior.now coming.old leaving.old hull.old }
-    requires halt { Halt C.Value.Rowed.row (C.Costs.net costs.now) (length next.now) next.now prior.now reached.now via.now coming.old leaving.old slack.old hull.old }
-    requires low { weight (C.Value.Rowed.row hull.old) ≤ℤ pos 0 }
-    ensures stands { Stands C.Value.Rowed.row (C.Costs.net costs.now) (length next.now) next.now prior.now coming.new leaving.new hull.new }
-    ensures rests { Rests C.Value.Rowed.row (length next.now) coming.new leaving.new hull.new }
-    ensures zero { weight (C.Value.Rowed.row hull.new) ≡ pos 0 }
+    requires borne { AreBorneOut C.Value.Rowed.row (C.Costs.net day.now.costs.now) links.now prices.old }
+    requires halted { IsHalted C.Value.Rowed.row (C.Costs.net day.now.costs.now) links.now prices.old tails.old }
+    requires low { weight (C.Value.Rowed.row prices.old.hull) ≤ℤ pos 0 }
+    ensures tails_long { length tails.new.reached.now ≡ length tails.old.reached.now }
+    ensures borne { AreBorneOut C.Value.Rowed.row (C.Costs.net day.now.costs.now) links.now prices.new }
+    ensures calm { AreCalm C.Value.Rowed.row links.now prices.new }
+    ensures zero { weight (C.Value.Rowed.row prices.new.hull) ≡ pos 0 }
 {
-    let d = hull.negated();
-    raise_heads(prior, reached, coming, d);
-    raise_tails(reached, via, leaving, slack, d);
-    *hull = C::Value::zero();
+    let by = prices.hull.negated();
+    raise(links, prices, tails, by);
+    prices.hull = C::Value::zero();
 }

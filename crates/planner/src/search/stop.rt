@@ -6,7 +6,7 @@ ghost use Rattle.matchings.specs.Rowed.{PlacesNear};
 use rows::Rowed;
 
 /// Whether the links are enough: the duties are within the limit, and the hull price is not below zero.
-pub(crate) fn enough<V: Rowed>(duties: usize, limit: usize, hull: V) -> bool
+pub(crate) fn enough<V: Rowed>(duties: u16, limit: u16, hull: V) -> bool
     ensures stop { result ≡ true → (duties ≤ limit) × (pos 0 ≤ℤ weight (V.Rowed.row hull)) }
     ensures go { result ≡ false → duties ≤ limit → weight (V.Rowed.row hull) <ℤ pos 0 }
 {

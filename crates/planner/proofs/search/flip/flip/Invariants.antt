@@ -1,10 +1,10 @@
-use Rattle.std.proofs.Common.{length}
 use Rattle.matchings.specs.Tables.{at}
 use Rattle.matchings.specs.Flips.{Flipping}
+use Rattle.planner.specs.Searches.{trips}
 use Rattle.planner.proofs.search.flip.flip.Given as goal
 
 abbrev pub invariant-walk : goal.invariant-walk
-invariant-walk l = Flipping (length l.reached) l.reached l.via l.initial.next l.initial.prior l.i l.next l.prior
+invariant-walk g l = Flipping (trips l.initial.links) l.tails.reached.now l.tails.via.now l.initial.links.next.now l.initial.links.prior.now l.i l.links.next.now l.links.prior.now
 
 abbrev pub decreases-walk : goal.decreases-walk
-decreases-walk l = at l.reached l.i
+decreases-walk g l = at l.tails.reached.now l.i

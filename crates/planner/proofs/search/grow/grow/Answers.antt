@@ -1,57 +1,26 @@
-use Rattle.std.proofs.Common.{sym, ◌∙◌}
-use Rattle.planner.proofs.SearchSteps.{few_names, at_flipped, at_matching, at_below, under}
-use Rattle.matchings.proofs.FlipKeeps.{flipped, climbs}
+use Rattle.std.proofs.Common.{sym, refl, ◌∙◌, subst}
+use Rattle.matchings.specs.Growths.{Stands}
+use Rattle.matchings.proofs.FlipKeeps.{flipped}
 use Rattle.matchings.proofs.GrowthStarts.{near_heads_rest, near_tails_rest, started}
 use Rattle.planner.proofs.search.grow.grow.Goals as goal
 
-pub start-requires : goal.start-requires
-start-requires g c =
+pub start-requires-clause-near : goal.start-requires-clause-near
+start-requires-clause-near g c =
     let m = g.C.Value.Rowed in
-    let s = c.requires.stands in
-    let e = s.sound.matching.prior_long in
-    record {
-      bounded = c.requires.bounded;
-      few = at_below _ _ _ e (few_names _ c.requires.few);
-      coming_long = s.a_long ∙ sym e;
-      leaving_long = s.b_long ∙ sym e;
-      reached_long = c.requires.reached_long ∙ sym e;
-      slack_long = c.requires.slack_long ∙ sym e;
-      via_long = c.requires.via_long ∙ sym e;
-      coming_near = near_heads_rest m.row m.count m.long m.near _ _ _ _ s.a_long c.requires.rests;
-      leaving_near = near_tails_rest m.row m.count m.long m.near _ _ _ _ s.b_long c.requires.rests;
-    }
+    let s = c.requires.borne in
+    record { coming = near_heads_rest m.row m.count m.long m.near _ _ _ _ s.a_long c.requires.calm; leaving = near_tails_rest m.row m.count m.long m.near _ _ _ _ s.b_long c.requires.calm }
 
-pub extend-requires : goal.extend-requires
-extend-requires g c =
+pub extend-requires-clause-grown : goal.extend-requires-clause-grown
+extend-requires-clause-grown g c =
     let m = g.C.Value.Rowed in
-    let s = c.requires.stands in
-    record {
-      bounded = c.requires.bounded;
-      few = c.requires.few;
-      stands = s;
-      growing = started m.row m.count m.long m.near _ c.requires.bounded _ _ _ _ _ _ _ _ _ _ s.sound.matching.prior_long s c.requires.rests (c.start.auto.reached ∙ c.requires.reached_long) (c.start.auto.via ∙ c.requires.via_long) (c.start.auto.slack ∙ c.requires.slack_long) c.start.ensures.blank c.start.ensures.slacks;
-      low = c.requires.low;
-    }
+    let e = c.start.ensures in
+    let t = c.start.new.tails in
+    started m.row m.count m.long m.near _ c.args.day.now.bounded _ _ _ _ _ _ _ _ _ _ refl c.requires.borne c.requires.calm e.tails_long (t.via_long ∙ e.tails_long) (t.slack_long ∙ e.tails_long) e.blank e.slacks
 
-pub flip-requires : goal.flip-requires
-flip-requires g c =
-    let s = c.requires.stands in
-    let r = c.in-Free.ensures.found.0 in
-    let e = c.extend.auto.reached ∙ c.start.auto.reached ∙ c.requires.reached_long in
-    record {
-      few = at_below _ _ _ e (few_names _ c.requires.few);
-      via_long = c.extend.auto.via ∙ c.start.auto.via ∙ c.requires.via_long ∙ sym e;
-      within = under _ _ _ e r.within;
-      numbered = r.numbered;
-      loose = r.loose;
-      matching = at_matching _ _ _ _ e s.sound.matching;
-      climb = climbs _ _ _ _ _ _ _ _ _ _ e r;
-    }
-
-pub returns-in-Free : goal.returns-in-Free
-returns-in-Free g c =
+pub returns-in-Ok-clause-borne : goal.returns-in-Ok-clause-borne
+returns-in-Ok-clause-borne g c =
     let m = g.C.Value.Rowed in
-    let r = c.in-Free.ensures.found in
-    let e = c.extend.auto.reached ∙ c.start.auto.reached ∙ c.requires.reached_long in
-    let f = at_flipped _ _ _ _ _ _ _ _ e c.flip.ensures in
-    record { stands = flipped m.row _ _ _ _ _ _ _ _ _ _ r.0 _ _ f c.in-Free.ensures.stands; outcome = (f.count, r.1, c.in-Free.ensures.low) }
+    let e = c.in-Ok.ensures in
+    let n = c.flip.new.links in
+    let s = flipped m.row _ _ _ _ _ _ _ _ _ _ e.extended.0 _ _ c.flip.ensures e.borne in
+    subst (λ k. Stands m.row (g.C.Costs.net c.args.day.now.costs.now) k n.next.now n.prior.now c.extend.new.prices.coming.now c.extend.new.prices.leaving.now c.extend.new.prices.hull) (sym s.sound.matching.next_long) s

@@ -1,16 +1,24 @@
-use Rattle.planner.proofs.search.least.least.Goals as goal
-use Rattle.std.proofs.Common.{sym, ◌∙◌, inl, inr, rules}
+use Rattle.std.proofs.Common.{◌∙◌, sym, rules}
+use Rattle.std.proofs.lemmas.Bool.{MatchBool-at_true, MatchBool-at_false}
 use Rattle.matchings.proofs.LeastSteps.{least_skip, least_first, least_better, least_keep}
-use Rattle.planner.proofs.search.least.least.Goals.{then-reached-i+then-via-i+in-Some+then-is_below, then-reached-i+then-via-i+in-Some+else-is_below, then-reached-i+then-via-i+in-None, else-reached-i, else-reached-i-via-then-reached-i+else-via-i, else-reached-i-via-else-reached-i}
+use Rattle.planner.proofs.search.least.least.Goals as goal
+use Rattle.planner.proofs.search.least.least.Goals.{then-is_open+in-Some+then-is_below, then-is_open+in-Some+else-is_below, then-is_open+in-None, else-is_open}
 
 pub loop-i-preserved : goal.loop-i-preserved
 loop-i-preserved g c =
     let m = g.V.Rowed in
-    elim c.if-reached-i.branch [
-      | then-reached-i+then-via-i+in-Some+then-is_below w ↦ simp w.best-is
-          (least_better m.row m.count m.long m.near c.args.reached.now c.args.via.now c.args.slack.now c.loop-i.i c.loop-i.best w.in-Some.m w.in-Some.is _ _ w.if-reached-i.true w.if-via-i.true (search rules) (search rules) w.index-slack-i.is w.index-slack-m.is c.loop-i.invariant (sym w.is_below.ensures ∙ w.if-is_below.true))
-      | then-reached-i+then-via-i+in-Some+else-is_below w ↦ simp w.best-is
-          (least_keep m.row m.count m.long m.near c.args.reached.now c.args.via.now c.args.slack.now c.loop-i.i c.loop-i.best w.in-Some.m w.in-Some.is _ _ w.if-reached-i.true w.if-via-i.true (search rules) (search rules) w.index-slack-i.is w.index-slack-m.is c.loop-i.invariant (sym w.is_below.ensures ∙ w.if-is_below.false))
-      | then-reached-i+then-via-i+in-None w ↦ simp w.best-is (least_first m.row m.count m.long m.near c.args.reached.now c.args.via.now c.args.slack.now c.loop-i.i c.loop-i.best w.in-None.is w.if-reached-i.true w.if-via-i.true c.loop-i.invariant)
-      | else-reached-i w ↦ simp w.best-is (least_skip m.row m.count m.long m.near c.args.reached.now c.args.via.now c.args.slack.now c.loop-i.i c.loop-i.best c.loop-i.invariant (elim w.else-reached-i.branch [ else-reached-i-via-then-reached-i+else-via-i v ↦ inr v.if-via-i.false | else-reached-i-via-else-reached-i v ↦ inl v.if-reached-i.false ]))
+    let t = c.args.tails.now in
+    elim c.if-is_open.branch [
+      | then-is_open+in-Some+then-is_below w ↦
+          let o = MatchBool-at_true _ _ w.if-is_open.true c.is_open.ensures in
+          simp w.best-is
+          (least_better m.row m.count m.long m.near t.reached.now t.via.now t.slack.now c.loop-i.i c.loop-i.best w.in-Some.m w.in-Some.is _ _ o.0 o.1 (search rules) (search rules) c.slack-item.is w.index-tails-m.is c.loop-i.invariant (sym (rw (← w.index-tails-m.is) at w.is_below.ensures) ∙ w.if-is_below.true))
+      | then-is_open+in-Some+else-is_below w ↦
+          let o = MatchBool-at_true _ _ w.if-is_open.true c.is_open.ensures in
+          simp w.best-is
+          (least_keep m.row m.count m.long m.near t.reached.now t.via.now t.slack.now c.loop-i.i c.loop-i.best w.in-Some.m w.in-Some.is _ _ o.0 o.1 (search rules) (search rules) c.slack-item.is w.index-tails-m.is c.loop-i.invariant (sym (rw (← w.index-tails-m.is) at w.is_below.ensures) ∙ w.if-is_below.false))
+      | then-is_open+in-None w ↦
+          let o = MatchBool-at_true _ _ w.if-is_open.true c.is_open.ensures in
+          simp w.best-is (least_first m.row m.count m.long m.near t.reached.now t.via.now t.slack.now c.loop-i.i c.loop-i.best w.in-None.is o.0 o.1 c.loop-i.invariant)
+      | else-is_open w ↦ simp w.best-is (least_skip m.row m.count m.long m.near t.reached.now t.via.now t.slack.now c.loop-i.i c.loop-i.best c.loop-i.invariant (MatchBool-at_false _ _ w.if-is_open.false c.is_open.ensures))
     ]

@@ -4,4 +4,4 @@ use Rattle.matchings.specs.Rowed.{weights}
 use Rattle.planner.proofs.search.raise.raise_heads.Given as goal
 
 abbrev pub invariant-loop-j : goal.invariant-loop-j
-invariant-loop-j g l = RaiseHeads l.prior l.reached (weight (g.V.Rowed.row l.by)) l.j (weights g.V.Rowed.row l.initial.coming) (weights g.V.Rowed.row l.coming)
+invariant-loop-j g l = RaiseHeads l.links.prior.now l.tails.reached.now (weight (g.V.Rowed.row l.by)) l.j (weights g.V.Rowed.row l.initial.coming) (weights g.V.Rowed.row l.coming)

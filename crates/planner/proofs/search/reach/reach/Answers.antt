@@ -1,84 +1,46 @@
-use Rattle.std.proofs.Common.{◌<◌, length, sym, ◌∙◌, length-set, rules}
-use Rattle.matchings.specs.Tables.{at}
-use Rattle.matchings.proofs.TableEntries.{weights_at, near_read}
-use Rattle.matchings.proofs.Reaching.{names}
-use Rattle.planner.proofs.SearchSteps.{under, scan_below, few_names}
-use Rattle.matchings.proofs.ReachingValues.{near_heads, near_tails, near_slacks, step_near, stands_to, hull_to, ends_to, further_to, near_heads_after, near_tails_after}
+use Rattle.std.proofs.Common.{◌≡◌, length, get_or, ap, ◌∙◌, length-set}
+use Rattle.planner.specs.Searches.{trips}
+use Rattle.planner.proofs.Reaches.{prices_near, slacks_near, raise_near, after_raise}
 use Rattle.planner.proofs.search.reach.reach.Goals as goal
 
-pub raise_heads-requires : goal.raise_heads-requires
-raise_heads-requires g c =
+pub raise-requires-clause-near : goal.raise-requires-clause-near
+raise-requires-clause-near g c = let m = g.C.Value.Rowed in prices_near m.row m.count m.long m.near _ c.args.day.now.bounded c.args.links.now c.args.links.now.few c.args.prices.now c.args.tails.now _ c.requires.borne c.requires.grown
+
+pub raise-requires-clause-near_slack : goal.raise-requires-clause-near_slack
+raise-requires-clause-near_slack g c = let m = g.C.Value.Rowed in slacks_near m.row m.count m.long m.near _ c.args.day.now.bounded c.args.links.now c.args.links.now.few c.args.prices.now c.args.tails.now _ c.requires.borne c.requires.grown
+
+pub raise-requires-clause-step : goal.raise-requires-clause-step
+raise-requires-clause-step g c = let m = g.C.Value.Rowed in raise_near m.row m.count m.long m.near _ c.args.day.now.bounded c.args.links.now c.args.links.now.few c.args.prices.now c.args.tails.now _ c.requires.borne c.requires.grown _ c.requires.least _ (ap (get_or c.args.tails.now.slack.now c.args.i) c.index-tails-i.is)
+
+pub scan-requires-clause-near : goal.scan-requires-clause-near
+scan-requires-clause-near g c =
     let m = g.C.Value.Rowed in
-    let s = c.requires.stands in
-    let q = c.requires.growing in
+    let a = after_raise m.row m.count m.long m.near _ c.args.day.now.bounded c.args.links.now c.args.links.now.few c.args.prices.now c.args.tails.now _ c.requires.borne c.requires.grown _ c.requires.least _ (ap (get_or c.args.tails.now.slack.now c.args.i) c.index-tails-i.is) c.raise.new.prices c.raise.new.tails c.raise.ensures _ c.plus-prices.ensures in
+    record { coming = a.coming; leaving = a.leaving }
+
+pub returns-in-Some : goal.returns-in-Some
+returns-in-Some g c =
+    let m = g.C.Value.Rowed in
+    let a = after_raise m.row m.count m.long m.near _ c.args.day.now.bounded c.args.links.now c.args.links.now.few c.args.prices.now c.args.tails.now _ c.requires.borne c.requires.grown _ c.requires.least _ (ap (get_or c.args.tails.now.slack.now c.args.i) c.index-tails-i.is) c.raise.new.prices c.raise.new.tails c.raise.ensures _ c.plus-prices.ensures in
+    let s = c.scan.ensures in
+    let l : length c.scan.new.tails.reached.now ≡ length c.args.tails.now.reached.now = ap length s.reached ∙ length-set _ _ _ ∙ ap length c.raise.ensures.reached in
+    let n : length c.scan.new.tails.reached.now ≡ trips c.args.links.now = l ∙ c.requires.grown.searching.reached_long in
     record {
-      prior_long = s.sound.matching.prior_long ∙ sym q.searching.reached_long;
-      coming_long = s.a_long ∙ sym q.searching.reached_long;
-      names = simp q.searching.reached_long (names _ _ _ s.sound.matching);
-      near = near_heads m.row m.count m.long m.near _ c.requires.bounded _ c.requires.few _ _ _ _ _ _ _ _ _ s q;
-      step = step_near m.row m.count m.long m.near _ c.requires.bounded _ c.requires.few _ _ _ _ _ _ _ _ _ s q _ c.requires.least _ c.index-slack-i.is;
+      tails_long = l;
+      borne = a.borne;
+      price = a.price;
+      further = λ some. rw s.reached (a.further some _ c.in-Some.ensures.1 _ _ (c.scan.new.tails.slack_long ∙ n) (c.scan.new.tails.via_long ∙ n) s.scanned);
+      ends = λ none. absurd (c.in-Some.ensures.0 none);
     }
 
-pub raise_tails-requires : goal.raise_tails-requires
-raise_tails-requires g c =
+pub returns-in_default : goal.returns-in_default
+returns-in_default g c =
     let m = g.C.Value.Rowed in
-    let s = c.requires.stands in
-    let q = c.requires.growing in
+    let a = after_raise m.row m.count m.long m.near _ c.args.day.now.bounded c.args.links.now c.args.links.now.few c.args.prices.now c.args.tails.now _ c.requires.borne c.requires.grown _ c.requires.least _ (ap (get_or c.args.tails.now.slack.now c.args.i) c.index-tails-i.is) c.raise.new.prices c.raise.new.tails c.raise.ensures _ c.plus-prices.ensures in
     record {
-      via_long = q.searching.via_long ∙ sym q.searching.reached_long;
-      leaving_long = s.b_long ∙ sym q.searching.reached_long;
-      slack_long = q.slack_long ∙ sym q.searching.reached_long;
-      near = near_tails m.row m.count m.long m.near _ c.requires.bounded _ c.requires.few _ _ _ _ _ _ _ _ _ s q;
-      near_slack = near_slacks m.row m.count m.long m.near _ c.requires.bounded _ c.requires.few _ _ _ _ _ _ _ _ _ s q;
-      step = step_near m.row m.count m.long m.near _ c.requires.bounded _ c.requires.few _ _ _ _ _ _ _ _ _ s q _ c.requires.least _ c.index-slack-i.is;
-    }
-
-pub offset_bounds-coming-j : goal.offset_bounds-coming-j
-offset_bounds-coming-j g c =
-    let j = c.requires.stands.sound.matching.out c.args.i c.requires.least.0 c.if-j.true in
-    let l : at c.args.next.now c.args.i < length c.raise_heads.new.coming = under _ _ _ (c.raise_heads.auto.coming ∙ c.requires.stands.a_long) j.0 in
-    search rules
-
-pub scan-requires : goal.scan-requires
-scan-requires g c =
-    let m = g.C.Value.Rowed in
-    let s = c.requires.stands in
-    let q = c.requires.growing in
-    let j = s.sound.matching.out c.args.i c.requires.least.0 c.if-j.true in
-    let r = stands_to m.row m.count m.long m.near _ c.requires.bounded _ c.requires.few _ _ _ _ _ _ _ _ _ s q _ c.requires.least _ c.index-slack-i.is _ _ _ _ c.raise_heads.auto.coming c.raise_tails.auto.leaving c.raise_tails.auto.slack c.plus.ensures c.raise_heads.ensures c.raise_tails.ensures in
-    record {
-      bounded = c.requires.bounded;
-      below = scan_below _ _ _ (few_names _ c.requires.few) r.b_long j.0;
-      price_near = near_read m.row _ _ _ _ (under _ _ _ r.a_long j.0) c.index-coming-j.is (near_heads_after m.row m.count m.long m.near _ c.requires.bounded _ c.requires.few _ _ _ _ _ _ _ _ _ s q _ c.requires.least _ c.index-slack-i.is _ _ _ _ c.raise_heads.auto.coming c.raise_tails.auto.leaving c.raise_tails.auto.slack c.plus.ensures c.raise_heads.ensures c.raise_tails.ensures);
-      leaving_near = near_tails_after m.row m.count m.long m.near _ c.requires.bounded _ c.requires.few _ _ _ _ _ _ _ _ _ s q _ c.requires.least _ c.index-slack-i.is _ _ _ _ c.raise_heads.auto.coming c.raise_tails.auto.leaving c.raise_tails.auto.slack c.plus.ensures c.raise_heads.ensures c.raise_tails.ensures;
-      reached_long = length-set _ _ _ ∙ q.searching.reached_long ∙ sym r.b_long;
-      slack_long = c.raise_tails.auto.slack ∙ q.slack_long ∙ sym r.b_long;
-      via_long = q.searching.via_long ∙ sym r.b_long;
-    }
-
-pub returns-then-j : goal.returns-then-j
-returns-then-j g c =
-    let m = g.C.Value.Rowed in
-    let s = c.requires.stands in
-    let q = c.requires.growing in
-    let j = s.sound.matching.out c.args.i c.requires.least.0 c.if-j.true in
-    let r = stands_to m.row m.count m.long m.near _ c.requires.bounded _ c.requires.few _ _ _ _ _ _ _ _ _ s q _ c.requires.least _ c.index-slack-i.is _ _ _ _ c.raise_heads.auto.coming c.raise_tails.auto.leaving c.raise_tails.auto.slack c.plus.ensures c.raise_heads.ensures c.raise_tails.ensures in
-    record {
-      stands = r;
-      price = hull_to m.row m.count m.long m.near _ c.requires.bounded _ c.requires.few _ _ _ _ _ _ _ _ _ s q _ c.requires.least _ c.index-slack-i.is _ _ _ _ c.raise_heads.auto.coming c.raise_tails.auto.leaving c.raise_tails.auto.slack c.plus.ensures c.raise_heads.ensures c.raise_tails.ensures;
-      further = λ some. further_to m.row m.count m.long m.near _ c.requires.bounded _ c.requires.few _ _ _ _ _ _ _ _ _ s q _ c.requires.least _ c.index-slack-i.is _ _ _ _ c.raise_heads.auto.coming c.raise_tails.auto.leaving c.raise_tails.auto.slack c.plus.ensures c.raise_heads.ensures c.raise_tails.ensures
-          some _ (sym (weights_at m.row _ _ _ (under _ _ _ r.a_long j.0) c.index-coming-j.is)) _ _ (c.scan.auto.slack ∙ c.raise_tails.auto.slack ∙ q.slack_long) (c.scan.auto.via ∙ q.searching.via_long) c.scan.ensures;
-      ends = λ none. absurd (c.if-j.true none);
-    }
-
-pub returns-else-j : goal.returns-else-j
-returns-else-j g c =
-    let m = g.C.Value.Rowed in
-    let s = c.requires.stands in
-    let q = c.requires.growing in
-    record {
-      stands = stands_to m.row m.count m.long m.near _ c.requires.bounded _ c.requires.few _ _ _ _ _ _ _ _ _ s q _ c.requires.least _ c.index-slack-i.is _ _ _ _ c.raise_heads.auto.coming c.raise_tails.auto.leaving c.raise_tails.auto.slack c.plus.ensures c.raise_heads.ensures c.raise_tails.ensures;
-      price = hull_to m.row m.count m.long m.near _ c.requires.bounded _ c.requires.few _ _ _ _ _ _ _ _ _ s q _ c.requires.least _ c.index-slack-i.is _ _ _ _ c.raise_heads.auto.coming c.raise_tails.auto.leaving c.raise_tails.auto.slack c.plus.ensures c.raise_heads.ensures c.raise_tails.ensures;
-      further = λ some. absurd (some c.if-j.false);
-      ends = λ none. ends_to m.row m.count m.long m.near _ c.requires.bounded _ c.requires.few _ _ _ _ _ _ _ _ _ s q _ c.requires.least _ c.index-slack-i.is _ _ _ _ c.raise_heads.auto.coming c.raise_tails.auto.leaving c.raise_tails.auto.slack c.plus.ensures c.raise_heads.ensures c.raise_tails.ensures none;
+      tails_long = length-set _ _ _ ∙ ap length c.raise.ensures.reached;
+      borne = a.borne;
+      price = a.price;
+      further = λ some. absurd (some c.in_default.ensures);
+      ends = a.ends;
     }

@@ -1,34 +1,17 @@
-use Rattle.std.proofs.Common.{◌≡◌, length, sym, arith, rules}
+use Rattle.std.proofs.Common.{not, sym, refl, ap, ◌∙◌}
 use Rattle.matchings.proofs.ScanKeeps.{start_skip, start_more}
 use Rattle.matchings.proofs.Ranges.{weighed_forward}
-use Rattle.matchings.proofs.TableEntries.{near_read, weights_at}
+use Rattle.planner.proofs.EntryTests.{some_entry, no_entry}
 use Rattle.planner.proofs.search.scan.start.Goals as goal
-use Rattle.planner.proofs.search.scan.start.Goals.{then-prior-j, else-prior-j}
-
-pub scan-requires : goal.scan-requires
-scan-requires g c =
-    let m = g.C.Value.Rowed in
-    record {
-      bounded = c.requires.bounded;
-      below = search rules;
-      price_near = near_read m.row _ _ _ _ (search rules) c.index-coming-j.is c.requires.coming_near;
-      leaving_near = c.requires.leaving_near;
-      reached_long = search rules;
-      slack_long = search rules;
-      via_long = search rules;
-    }
+use Rattle.planner.proofs.search.scan.start.Goals.{then-is_none, else-is_none}
 
 pub loop-j-preserved : goal.loop-j-preserved
 loop-j-preserved g c =
-    let m = g.C.Value.Rowed in
-    let fw = weighed_forward _ _ c.requires.bounded in
-    elim c.if-prior-j.branch [
-      | then-prior-j w ↦
-          simp (w.slack-is, w.via-is) (start_more _ _ fw _ _ _ _ _ _ _ c.loop-j-test.true c.loop-j.invariant w.if-prior-j.true _ (sym (weights_at m.row _ _ _ (search rules) w.index-coming-j.is)) _ _ w.scan.ensures)
-      | else-prior-j w ↦ simp (w.slack-is, w.via-is) (start_skip _ _ fw _ _ _ _ _ _ _ c.loop-j-test.true c.loop-j.invariant w.if-prior-j.false)
+    let fw = weighed_forward _ _ c.args.day.now.bounded in
+    let i = c.loop-j.invariant in
+    elim c.if-is_none.branch [
+      | then-is_none w ↦
+          let s = w.scan.ensures in
+          simp w.tails-is (s.reached ∙ i.0, rw s.reached (start_more _ _ fw _ _ _ _ _ _ _ c.loop-j-test.true i.1 (no_entry _ _ _ c.tail_of.ensures (sym c.is_none.ensures) (ap not w.if-is_none.true)) _ refl _ _ s.scanned))
+      | else-is_none w ↦ simp w.tails-is (i.0, start_skip _ _ fw _ _ _ _ _ _ _ c.loop-j-test.true i.1 (some_entry _ _ _ c.tail_of.ensures (sym c.is_none.ensures) (ap not w.if-is_none.false)))
     ]
-
-pub returns : goal.returns
-returns g c =
-    let e : c.loop-j.j ≡ length c.args.prior.now = omega arith in
-    record { blank = λ k l. c.clear.ensures k (omega arith); slacks = rw e at c.loop-j.invariant }

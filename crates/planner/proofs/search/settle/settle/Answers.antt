@@ -1,45 +1,23 @@
-use Rattle.std.proofs.Common.{sym, ◌∙◌}
-use Rattle.matchings.proofs.Reaching.{names}
-use Rattle.matchings.proofs.ReachingValues.{near_heads, near_tails, near_slacks}
-use Rattle.matchings.proofs.LastRaise.{down_near, settle_stands, settle_rests, settle_zero}
+use Rattle.std.proofs.Common.{length, ap}
+use Rattle.planner.proofs.Reaches.{prices_near, slacks_near}
+use Rattle.planner.proofs.Settles.{down_step, settled_borne, settled_calm, settled_zero}
 use Rattle.planner.proofs.search.settle.settle.Goals as goal
 
-pub raise_heads-requires : goal.raise_heads-requires
-raise_heads-requires g c =
-    let m = g.C.Value.Rowed in
-    let s = c.requires.stands in
-    let k = c.requires.halt in
-    let q = k.growing in
-    record {
-      prior_long = s.sound.matching.prior_long ∙ sym q.searching.reached_long;
-      coming_long = s.a_long ∙ sym q.searching.reached_long;
-      names = simp q.searching.reached_long (names _ _ _ s.sound.matching);
-      near = near_heads m.row m.count m.long m.near _ c.requires.bounded _ c.requires.few _ _ _ _ _ _ _ _ _ s q;
-      step = down_near m.row m.count m.long m.near _ c.requires.bounded _ c.requires.few _ _ _ _ _ _ _ _ s k c.requires.low _ c.negated-d.ensures;
-    }
+pub raise-requires-clause-near : goal.raise-requires-clause-near
+raise-requires-clause-near g c = let m = g.C.Value.Rowed in prices_near m.row m.count m.long m.near _ c.args.day.now.bounded c.args.links.now c.args.links.now.few c.args.prices.now c.args.tails.now _ c.requires.borne c.requires.halted.growing
 
-pub raise_tails-requires : goal.raise_tails-requires
-raise_tails-requires g c =
-    let m = g.C.Value.Rowed in
-    let s = c.requires.stands in
-    let k = c.requires.halt in
-    let q = k.growing in
-    record {
-      via_long = q.searching.via_long ∙ sym q.searching.reached_long;
-      leaving_long = s.b_long ∙ sym q.searching.reached_long;
-      slack_long = q.slack_long ∙ sym q.searching.reached_long;
-      near = near_tails m.row m.count m.long m.near _ c.requires.bounded _ c.requires.few _ _ _ _ _ _ _ _ _ s q;
-      near_slack = near_slacks m.row m.count m.long m.near _ c.requires.bounded _ c.requires.few _ _ _ _ _ _ _ _ _ s q;
-      step = down_near m.row m.count m.long m.near _ c.requires.bounded _ c.requires.few _ _ _ _ _ _ _ _ s k c.requires.low _ c.negated-d.ensures;
-    }
+pub raise-requires-clause-near_slack : goal.raise-requires-clause-near_slack
+raise-requires-clause-near_slack g c = let m = g.C.Value.Rowed in slacks_near m.row m.count m.long m.near _ c.args.day.now.bounded c.args.links.now c.args.links.now.few c.args.prices.now c.args.tails.now _ c.requires.borne c.requires.halted.growing
+
+pub raise-requires-clause-step : goal.raise-requires-clause-step
+raise-requires-clause-step g c = let m = g.C.Value.Rowed in down_step m.row m.count m.long m.near _ c.args.day.now.bounded c.args.links.now c.args.links.now.few c.args.prices.now c.args.tails.now c.requires.borne c.requires.halted c.requires.low _ c.negated-by.ensures
 
 pub returns : goal.returns
 returns g c =
     let m = g.C.Value.Rowed in
-    let s = c.requires.stands in
-    let k = c.requires.halt in
     record {
-      stands = settle_stands m.row m.count m.long m.near _ c.requires.bounded _ c.requires.few _ _ _ _ _ _ _ _ s k c.requires.low _ c.negated-d.ensures _ _ _ _ c.raise_heads.auto.coming c.raise_tails.auto.leaving c.zero.ensures c.raise_heads.ensures c.raise_tails.ensures;
-      rests = settle_rests m.row m.count m.long m.near _ c.requires.bounded _ c.requires.few _ _ _ _ _ _ _ _ s k c.requires.low _ c.negated-d.ensures _ _ _ _ c.raise_heads.auto.coming c.raise_tails.auto.leaving c.zero.ensures c.raise_heads.ensures c.raise_tails.ensures;
-      zero = settle_zero m.row m.count m.long m.near _ c.requires.bounded _ c.requires.few _ _ _ _ _ _ _ _ s k c.requires.low _ c.negated-d.ensures _ _ _ _ c.raise_heads.auto.coming c.raise_tails.auto.leaving c.zero.ensures c.raise_heads.ensures c.raise_tails.ensures;
+      tails_long = ap length c.raise.ensures.reached;
+      borne = settled_borne m.row m.count m.long m.near _ c.args.day.now.bounded c.args.links.now c.args.links.now.few c.args.prices.now c.args.tails.now c.requires.borne c.requires.halted c.requires.low _ c.negated-by.ensures c.raise.new.prices c.raise.new.tails c.raise.ensures _ c.zero-prices.ensures;
+      calm = settled_calm m.row m.count m.long m.near _ c.args.day.now.bounded c.args.links.now c.args.links.now.few c.args.prices.now c.args.tails.now c.requires.borne c.requires.halted c.requires.low _ c.negated-by.ensures c.raise.new.prices c.raise.new.tails c.raise.ensures _ c.zero-prices.ensures;
+      zero = settled_zero m.row m.count m.long m.near _ c.args.day.now.bounded c.args.links.now c.args.links.now.few c.args.prices.now c.args.tails.now c.requires.borne c.requires.halted c.requires.low _ c.negated-by.ensures c.raise.new.prices c.raise.new.tails c.raise.ensures _ c.zero-prices.ensures;
     }
