@@ -1,7 +1,7 @@
 -- What is printed of an edges sheet. Assumes nothing.
 use Rattle.std.specs.Prelude.{◌≡◌, ℕ, List, [], ◌∷◌, ◌++◌, length, Some, None, codes, decimal, Option}
 use Rattle.faults.specs.declared.fault.Fault.{Fault}
-use Rattle.faults.specs.Shown.{fault_text}
+use Rattle.faults.specs.Shown.{fault_line}
 use Rattle.walks.specs.declared.edge.Edge.{Edge}
 use Rattle.walks.specs.Walks.{Least}
 use Rattle.sheet.specs.Says.{Reads}
@@ -50,7 +50,7 @@ Distances es d = (x y : ℕ) → ∥ Least es x y (d x y) ∥₁
 
 -- the text for the edges es: the fault, if there is one, or else their number and the distances between their berths
 abbrev pub Tells : List Edge → Option Fault → List ℕ → Type 0
-Tells es (Some f) text = text ≡ fault_text f ++ 10 ∷ []
+Tells es (Some f) text = text ≡ fault_line f
 Tells es None text = (d : ℕ → ℕ → Option ℕ) × Distances es d × (text ≡ distances_text es d)
 
 -- the text for an edges sheet

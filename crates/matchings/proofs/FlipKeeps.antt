@@ -1,11 +1,10 @@
 -- A flip along tight links keeps the prices as they are, and tight. Assumes nothing.
-use Rattle.std.proofs.Common.{◌≡◌, ℕ, List, ℤ, sym, ◌∙◌, subst, inl, inr}
+use Rattle.std.proofs.Common.{ℕ, List, ℤ, ◌∙◌, inl, inr}
 use Rattle.rows.specs.Places.{weight}
 use Rattle.duties.specs.Duties.{Net}
-use Rattle.matchings.specs.Tables.{at}
 use Rattle.matchings.specs.Rowed.{weights, weighed}
 use Rattle.matchings.specs.Sound.{Tight, Tree}
-use Rattle.matchings.specs.Flips.{Climb, Flipped}
+use Rattle.matchings.specs.Flips.{Flipped}
 use Rattle.matchings.specs.Growths.{Stands, Ready}
 
 module _ (net : Net ℤ) (n : ℕ) (next prior reached via : List ℕ) (a b : List ℤ) (h : ℤ) (t : ℕ) (tree : Tree net n prior reached via a b t) (next' prior' : List ℕ) (f : Flipped n reached via next prior next' prior') where
@@ -34,7 +33,3 @@ module _ {V : Type 0} (row : V → List ℤ) (net : Net (List ℤ)) where
           tight = flip_tight (weighed net) n next prior reached via (weights row a) (weights row b) (weight (row h)) 65535 ready.tree next' prior' f s.sound.tight;
         };
       }
-
--- where a flip may begin, the way back is known
-pub climbs : (n l : ℕ) (next prior reached via : List ℕ) (a b : List ℤ) (net : Net ℤ) (i : ℕ) → l ≡ n → Ready net n next prior reached via a b i → Climb l prior reached via (at reached i)
-climbs n l next prior reached via a b net i e ready = subst (λ x. Climb x prior reached via (at reached i)) (sym e) (record { source = λ k l o. (ready.tree.source k l o).0; before = λ k l o _. ready.tree.before k l o })

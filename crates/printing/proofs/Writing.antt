@@ -23,17 +23,3 @@ pub ended : {W : Type 0} (took : W → List ℕ → W → Type 0) (f : Formatter
 ended took f whole rest g so e plain =
     let s = so plain in
     subst (λ l. HasWritten took f l g) (sym (append-nil s.0) ∙ ap (λ l. s.0 ++ l) (sym e) ∙ s.2) s.1
-
--- three texts, one after another
-pub three : {W : Type 0} (took : W → List ℕ → W → Type 0) (f g h k : Formatter W) (a b c whole : List ℕ) (ok : Type 0)
-    → (IsPlainFormatter f → ◌≡◌ {A = Bool} true true → HasWritten took f a g) → (IsPlainFormatter g → ◌≡◌ {A = Bool} true true → HasWritten took g b h) → (IsPlainFormatter h → ok → HasWritten took h c k)
-    → a ++ (b ++ c) ≡ whole → IsPlainFormatter f → ok → HasWritten took f whole k
-three took f g h k a b c whole ok p q r e plain y =
-    let x = p plain refl in
-    let z = q x.plain refl in
-    subst (λ l. HasWritten took f l k) e (has_written_append took f a g (b ++ c) k x (has_written_append took g b h c k z (r z.plain y)))
-
--- two texts, one after the other
-pub two : {W : Type 0} (took : W → List ℕ → W → Type 0) (f g h : Formatter W) (a b : List ℕ) (ok : Type 0)
-    → (IsPlainFormatter f → ◌≡◌ {A = Bool} true true → HasWritten took f a g) → (IsPlainFormatter g → ok → HasWritten took g b h) → IsPlainFormatter f → ok → HasWritten took f (a ++ b) h
-two took f g h a b ok p q plain y = let x = p plain refl in has_written_append took f a g b h x (q x.plain y)

@@ -19,9 +19,6 @@ same_space v w a b c d =
     ∙ ap (λ n. record { kept = w.kept; rest = w.rest; room = w.room; lent = n }) d
 
 module _ {R : Type 0} (rules : Rules R) (room : ℕ) (sheet : List ℕ) (first : Space R) where
-  said : List R × Option Fault
-  said = read_lines rules room 1 [] (lines sheet)
-
   -- the row holds the fields so far of the current line, what the sheet says is still to be read from the tokens, and the space has changed in front only
   pub record Taking (row : Row) (now : Space R) (left : List Tok) : Type 0 where
     pub texts : List (List ℕ)

@@ -42,7 +42,8 @@ fn command_at(tape: &[u8], at: usize) -> Result<(Command, usize), Fault>
 }
 
 impl<'a> TapeReader<'a> {
-    /// A reader that goes on from an offset. A step of its own, so that what `new` promises of offset 0 is proved of its call.
+    /// A reader that goes on from an offset. A step of its own, so that what `new` promises of offset 0 is
+    /// proved of its call.
     fn from_offset(tape: &'a [u8], at: usize) -> TapeReader<'a>
         ensures comes { left result ≡ to_hand_on (too_long tape.now) tape.now at }
         ensures format { Gives tape.now (all_of tape.now) }

@@ -52,8 +52,8 @@ fn read_into(mut calls: Vec<Call>, tape: &[u8]) -> TapeCalls
     TapeCalls { calls, fault: None }
 }
 
-/// Reads a whole tape. Room for as many calls as the tape can hold, one for each byte that is read, is reserved first, so want of memory
-/// can come at no other moment.
+/// Reads a whole tape. Room for as many calls as the tape can hold, one for each byte that is read, is
+/// reserved first, so want of memory can come at no other moment.
 pub fn read_tape(heap: Global, tape: &[u8]) -> Result<TapeCalls, AllocError>
     ensures { IfOk result (λ t. HoldsCalls tape.now t.calls.items t.fault) }
 {

@@ -80,7 +80,3 @@ module _ (line : ℕ) (rest text after : List ℕ) (k : ℕ) (some : 0 < length 
 
   pub line_found : comment text ≡ false → toks (line + 1) (lines rest) ≡ line_rest (line + 1) 0 text after
   line_found t = cut_line ∙ ap (λ b. cond b (toks (line + 1 + 1) (lines after)) (line_rest (line + 1) 0 text after)) t
-
-pub line_none : (line : ℕ) (rest : List ℕ) → length rest ≡ 0 → toks (line + 1) (lines rest) ≡ []
-line_none line [] h = refl
-line_none line (b ∷ bs) h = absurd (omega arith)

@@ -1,4 +1,4 @@
-//! Entries of the lent tables of positions, by which trips are named: a number each, since no memory is asked for.
+//! Entries of the tables of positions, by which trips are named: numbers, since plan is lent tables of numbers.
 ghost use Rattle.std.specs.Prelude.{◌≡◌, ℕ, ◌<◌, length, slice_set};
 ghost use Rattle.matchings.specs.Tables.{at};
 ghost use Rattle.planner.specs.Entries.{IsEntry};

@@ -12,6 +12,7 @@ pub(crate) fn least<V: Rowed>(tails: &Tails<V>) -> Option<usize>
     let mut best: Option<usize> = None;
     for (i, slack) in tails.slack.iter().enumerate() {
         if tails.is_open(i) {
+            // A `match` and no `is_none_or`: of what a closure answers at a best that is not known yet a proof knows nothing.
             match best {
                 Some(m) => {
                     if slack.is_below(tails.slack[m]) {

@@ -32,6 +32,7 @@ fn quote<C: Costs>(
     requires near { PlacesNear 6000000000 (C.Value.Rowed.row hull) }
     ensures { Opened C.Value.Rowed.row (C.Costs.net day.now.costs.now) hull (length coming.old) coming.new leaving.new }
 {
+    // By an index: the price of leaving a trip and its costs are asked for by its position.
     for (i, price) in coming.iter_mut().enumerate() {
         *price = day.costs.opening(i).plus(hull);
         leaving[i] = day.costs.home(i);

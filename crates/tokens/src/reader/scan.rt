@@ -16,7 +16,8 @@ fn is_comment(line: &[u8]) -> bool
 }
 
 impl<'a> Reader<'a> {
-    /// A reader of the lines that follow a line. A step of its own, so that what `new` promises of a whole sheet is proved of its call.
+    /// A reader of the lines that follow a line. A step of its own, so that what `new` promises of a whole
+    /// sheet is proved of its call.
     fn after_line(rest: &'a [u8], line: usize) -> Reader<'a>
         requires { line + length rest.now ≤ 2 ^ 63 }
         ensures tokens { left result ≡ toks (line + 1) (lines rest.now) }
