@@ -29,6 +29,7 @@ fn refuses(
     };
     assert_eq!(rt; fault.refusal.number(), number);
     assert_eq!(rt; fault, Layer::Edges.fault(fault.refusal, place));
+    assert_eq!(rt; fault.layer.word(), "edges");
     assert_eq!(rt; chart.edges().len(), before);
     Ok(())
 }

@@ -37,7 +37,16 @@ impl fmt::Display for Layer {
 
     /// Writes the word by which the layer is shown.
     fn fmt<W: fmt::Write>(&self, f: &mut fmt::Formatter<W>) -> fmt::Result {
-        f.write_str(match self {
+        f.write_str(self.word())
+    }
+}
+
+impl Layer {
+    /// The word by which the layer is shown.
+    pub fn word(self) -> &'static str
+        ensures { result.now ≡ word_of self }
+    {
+        match self {
             Layer::Edges => "edges",
             Layer::Events => "events",
             Layer::Activities => "activities",
@@ -48,11 +57,9 @@ impl fmt::Display for Layer {
             Layer::Timetable => "timetable",
             Layer::Board => "board",
             Layer::Planner => "planner",
-        })
+        }
     }
-}
 
-impl Layer {
     /// The fault of this layer with a refusal and the place that it speaks of.
     pub fn fault(self, refusal: Refusal, place: usize) -> Fault
         ensures { result ≡ fault_at self refusal place }
