@@ -1,1 +1,2 @@
 pub mod Duties
+pub mod Places

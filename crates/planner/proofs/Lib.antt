@@ -1,6 +1,7 @@
 pub mod EntryTests
 pub mod Reaches
 pub mod Settles
+pub mod HighCosts
 pub mod Endings
 pub mod DayBounds
 pub mod Fronts

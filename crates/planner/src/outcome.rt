@@ -33,6 +33,7 @@ pub(crate) fn outcome<C: Costs>(
     prices: &mut Prices<C::Value>,
     tails: &mut Tails<C::Value>,
 ) -> Result<Plan<C::Value>, Unplanned>
+    requires places { C.Value.Rowed.count ≤ 4 }
     requires few { (C.Costs.net day.now.costs.now).trips ≤ 200 }
     requires limited { limit ≤ 200 }
     requires successors_long { length successors.old ≡ (C.Costs.net day.now.costs.now).trips }

@@ -1,7 +1,8 @@
 //! What trips are priced at, and what a plan costs.
 ghost use Rattle.std.specs.Prelude.{◌≡◌, ◌≤◌, length};
 ghost use Rattle.outcomes.specs.Passes.{Totalled, Priced};
-ghost use Rattle.plans.specs.Answers.{past, cost_high};
+ghost use Rattle.plans.specs.Answers.{cost_high};
+ghost use Rattle.planner.specs.Costs.{past_place};
 ghost use Rattle.planner.specs.Searches.{PricesNear};
 
 use crate::search::prices::Prices;
@@ -35,16 +36,23 @@ pub(crate) fn write_prices<V: Rowed>(prices: &Prices<V>, written: &mut [V])
     }
 }
 
-/// Whether a place of a cost is past the most.
-fn is_past(place: i64) -> bool
-    ensures { result ≡ past place }
+/// Whether a place, if there is one, lies further from zero than a place of a cost may.
+fn is_past(place: Option<i64>) -> bool
+    ensures { result ≡ past_place place }
 {
-    place > MOST_COST || place < -MOST_COST
+    place.is_some_and(|number| number > MOST_COST || number < -MOST_COST)
 }
 
 /// Whether some place of a cost is past the most.
 pub(crate) fn is_high<V: Rowed>(cost: V) -> bool
+    requires few { V.Rowed.count ≤ 4 }
     ensures { result ≡ cost_high (V.Rowed.row cost) }
 {
-    cost.places().iter().any(|place| is_past(*place))
+    // By an index, since a row is asked for one place at a time; it has four at most.
+    for i in 0..4 {
+        if is_past(cost.place(i)) {
+            return true;
+        }
+    }
+    false
 }

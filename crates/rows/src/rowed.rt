@@ -48,10 +48,6 @@ pub trait Rowed: Copy {
     fn place(self, i: usize) -> Option<i64>
         ensures { result ≡ slice_get (row self) i };
 
-    /// The places, the first in front.
-    fn places(&self) -> &[i64]
-        ensures { result.now ≡ row self.now };
-
     /// Whether this row comes before the other: the first place that differs decides.
     fn is_below(self, other: Self) -> bool
         ensures { result ≡ below (row self) (row other) };
@@ -94,10 +90,6 @@ impl<const N: usize> Rowed for Row<N> {
 
     fn place(self, i: usize) -> Option<i64> {
         self.places.get(i).copied()
-    }
-
-    fn places(&self) -> &[i64] {
-        &self.places
     }
 
     #[tactic(auto, using(crate::proofs::Comparisons::below_from_lt))]

@@ -3,10 +3,9 @@ use Rattle.std.specs.Prelude.{◌≡◌, ℕ, ◌≤◌, List, length, ℤ}
 use Rattle.rows.specs.Places.{Small}
 use Rattle.tariffs.specs.Charges.{capped}
 
--- the laws of tariffs of so many places, whose rows have `count`, and which answer with these rows for opening a duty, for a link and for coming home
-pub record TariffLaws {T : Type 0} (places count : ℕ) (opens : T → ℕ → ℕ → List ℤ) (links homes : T → ℕ → List ℤ) : Type 0 where
-  -- each row has the tariff's places, 1 to 4
-  pub counted : places ≡ count
+-- the laws of tariffs whose rows have `count` places, and which answer with these rows for opening a duty, for a link and for coming home
+pub record TariffLaws {T : Type 0} (count : ℕ) (opens : T → ℕ → ℕ → List ℤ) (links homes : T → ℕ → List ℤ) : Type 0 where
+  -- a row has 1 to 4 places
   pub few_places : (1 ≤ count) × (count ≤ 4)
   pub opens_long : (t : T) (fee cents : ℕ) → length (opens t fee cents) ≡ count
   pub links_long : (t : T) (cents : ℕ) → length (links t cents) ≡ count

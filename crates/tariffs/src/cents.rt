@@ -14,8 +14,6 @@ pub struct Cents;
 impl Tariff for Cents {
     const PLACES: usize = 1;
 
-    ghost PLACES = { 1 };
-
     type Value = Row<{ Cents::PLACES }>;
 
     ghost opens = { λ _ fee cents. pos (capped fee + capped cents) ∷ [] };
@@ -25,6 +23,10 @@ impl Tariff for Cents {
     ghost homes = { λ _ cents. pos (capped cents) ∷ [] };
 
     ghost laws = { Prim.search rules };
+
+    fn row_length() -> usize {
+        Self::PLACES
+    }
 
     fn opening(&self, fee: u32, cents: u32) -> Row<1> {
         Row::new([counted(fee) + counted(cents)])

@@ -14,8 +14,6 @@ pub struct HullsFirst;
 impl Tariff for HullsFirst {
     const PLACES: usize = 2;
 
-    ghost PLACES = { 2 };
-
     type Value = Row<{ HullsFirst::PLACES }>;
 
     ghost opens = { λ _ fee cents. pos 1 ∷ pos (capped fee + capped cents) ∷ [] };
@@ -25,6 +23,10 @@ impl Tariff for HullsFirst {
     ghost homes = { λ _ cents. pos 0 ∷ pos (capped cents) ∷ [] };
 
     ghost laws = { Prim.search rules };
+
+    fn row_length() -> usize {
+        Self::PLACES
+    }
 
     fn opening(&self, fee: u32, cents: u32) -> Row<2> {
         Row::new([1, counted(fee) + counted(cents)])

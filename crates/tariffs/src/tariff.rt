@@ -11,9 +11,6 @@ pub trait Tariff {
     /// How many places the rows have, 1 to 4.
     const PLACES: usize;
 
-    /// The same number, for the laws.
-    ghost PLACES: { ℕ };
-
     /// What stands for a row.
     type Value: Rowed;
 
@@ -26,12 +23,10 @@ pub trait Tariff {
     /// The row for coming home, from its cents.
     ghost homes: { Self → ℕ → List ℤ };
 
-    /// How many places the rows have: `PLACES`.
+    // No body here: that `PLACES` is the number of places of `Value` is asked of no tariff, so each answers for itself.
+    /// How many places the rows have: each tariff answers with its `PLACES`.
     fn row_length() -> usize
-        ensures { result ≡ Self.Value.Rowed.count }
-    {
-        Self::PLACES
-    }
+        ensures { result ≡ Self.Value.Rowed.count };
 
     /// What it is worth to open a duty.
     fn opening(&self, fee: u32, cents: u32) -> Self::Value
@@ -46,5 +41,5 @@ pub trait Tariff {
         ensures { Self.Value.Rowed.row result ≡ homes self.now cents };
 
     /// What holds of the answers and of the number of places.
-    ghost laws: { TariffLaws PLACES Self.Value.Rowed.count opens links homes };
+    ghost laws: { TariffLaws Self.Value.Rowed.count opens links homes };
 }

@@ -1,17 +1,18 @@
-ghost use Rattle.std.specs.Prelude.{[], ◌∷◌, pos, neg_ℤ};
+ghost use Rattle.std.specs.Prelude.{◌≡◌, [], ◌∷◌, pos, neg_ℤ, Decides};
+ghost use Rattle.std.specs.Option.{IsSomeAnd};
+ghost use Rattle.rows.specs.Places.{Standing};
 ghost use Rattle.tariffs.specs.Charges.{capped};
 ghost use Rattle.std.proofs.Common.{rules};
 
 use super::*;
 use rows::Row;
+use std::cmp::Ordering;
 
 /// A tariff of four places: the fee paid back, the cents, which coming home pays back, the links and the hulls.
 struct PaidBack;
 
 impl Tariff for PaidBack {
     const PLACES: usize = 4;
-
-    ghost PLACES = { 4 };
 
     type Value = Row<{ PaidBack::PLACES }>;
 
@@ -22,6 +23,10 @@ impl Tariff for PaidBack {
     ghost homes = { λ _ cents. pos 0 ∷ neg_ℤ (pos (capped cents)) ∷ pos 0 ∷ pos 0 ∷ [] };
 
     ghost laws = { Prim.search rules };
+
+    fn row_length() -> usize {
+        Self::PLACES
+    }
 
     fn opening(&self, fee: u32, cents: u32) -> Row<4> {
         Row::new([-counted(fee), counted(cents), 0, 1])
@@ -59,4 +64,36 @@ fn opens_with_a_hull(rt: HostRuntime) {
 fn pays_back(rt: HostRuntime) {
     assert_eq!(rt; PaidBack.opening(100, 50), Row::new([-100, 50, 0, 1]));
     assert_eq!(rt; PaidBack.home(70), Row::new([0, -70, 0, 0]));
+}
+
+// What `==`, `cmp` and `partial_cmp` tell is known of rows that came from elsewhere, as a tariff's do.
+
+/// Whether two rows are the same.
+fn are_same(one: &Row<4>, other: &Row<4>) -> bool
+    ensures { Decides result (one.now.places ≡ other.now.places) }
+{
+    *one == *other
+}
+
+/// How two rows stand.
+fn standing(one: &Row<4>, other: &Row<4>) -> Ordering
+    ensures { Standing one.now.places other.now.places result }
+{
+    one.cmp(other)
+}
+
+/// How two rows stand, as `<` asks.
+fn partial_standing(one: &Row<4>, other: &Row<4>) -> Option<Ordering>
+    ensures { IsSomeAnd result (Standing one.now.places other.now.places) }
+{
+    one.partial_cmp(other)
+}
+
+#[test]
+fn answers_are_compared(rt: HostRuntime) {
+    let short = PaidBack.link(50);
+    let long = PaidBack.link(70);
+    assert!(rt; are_same(&short, &short) && !are_same(&short, &long));
+    assert!(rt; standing(&short, &long).is_lt());
+    assert!(rt; partial_standing(&long, &short).is_some());
 }
