@@ -10,6 +10,8 @@ same_since s t =
       prices = t.prices ∙ s.prices;
       numbers = t.numbers ∙ s.numbers;
       values = t.values ∙ s.values;
+      successors_long = t.successors_long ∙ s.successors_long;
+      prices_long = t.prices_long ∙ s.prices_long;
       numbers_long = t.numbers_long ∙ s.numbers_long;
       values_long = t.values_long ∙ s.values_long;
     }

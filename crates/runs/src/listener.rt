@@ -2,7 +2,6 @@
 ghost use Rattle.runs.specs.Heard.{Heard};
 
 use calls::Answer;
-use plans::Tables;
 use trips::Trip;
 
 // A trait and no closure: a public function would have to require of a closure that it may be called each time.
@@ -13,6 +12,6 @@ pub trait Listener<V> {
     ghost told: { Self → Heard V → Self → Type 0 };
 
     /// Hears an answer.
-    fn hear(&mut self, answer: &Answer<V>, trips: &[Trip], tables: &Tables<'_, V>)
-        ensures { told self.old (record { answer = answer.now; trips = trips.now; successors = tables.now.successors.now; prices = tables.now.prices.now }) self.new };
+    fn hear(&mut self, answer: &Answer<V>, trips: &[Trip], successors: &[u16], prices: &[V])
+        ensures { told self.old (record { answer = answer.now; trips = trips.now; successors = successors.now; prices = prices.now }) self.new };
 }

@@ -7,11 +7,24 @@ ghost use Rattle.runs.specs.Ran.{at_start, Ran};
 use crate::listener::Listener;
 use crate::obey::obey;
 use board::{Board, NewBoard};
-use calls::Call;
+use calls::{Answer, Call};
 use plans::{Pricing, Tables, Terms};
 use rows::Rowed;
 use rules::Rule;
 use tariffs::Tariff;
+use trips::Trip;
+
+/// Lets the listener hear an answer, with the trips that stand and what the tables of successors and prices hold.
+fn tell<V, L: Listener<V>>(
+    listener: &mut L,
+    answer: &Answer<V>,
+    trips: &[Trip],
+    tables: &Tables<'_, V>,
+)
+    ensures { L.Listener.told listener.old (record { answer = answer.now; trips = trips.now; successors = tables.now.successors.now; prices = tables.now.prices.now }) listener.new }
+{
+    listener.hear(answer, trips, tables.successors, tables.prices);
+}
 
 /// Does the calls on the board, one after the other, and lets the listener hear of each.
 fn run<'a, R: Rule, T: Tariff, L: Listener<T::Value>>(
@@ -31,7 +44,7 @@ fn run<'a, R: Rule, T: Tariff, L: Listener<T::Value>>(
 {
     for call in calls {
         let answer = obey(board, terms, *call, tables);
-        listener.hear(&answer, board.trips(), tables);
+        tell(listener, &answer, board.trips(), tables);
     }
 }
 

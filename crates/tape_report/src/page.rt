@@ -4,7 +4,7 @@ ghost use Rattle.tape_report.specs.Texts.{Added, answer_text, heard_text};
 
 use calls::{Answer, Done};
 use plan_report::PlanLines;
-use plans::{Plan, Tables};
+use plans::Plan;
 use rows::Rowed;
 use runs::Listener;
 use std::alloc::AllocError;
@@ -50,11 +50,11 @@ fn write_answer<V: Rowed>(
 impl<V: Rowed> Listener<V> for Page {
     ghost told = { λ s h t. Added string_bytes s.text t.text (heard_text V.Rowed.row h) };
 
-    fn hear(&mut self, answer: &Answer<V>, trips: &[Trip], tables: &Tables<'_, V>) {
+    fn hear(&mut self, answer: &Answer<V>, trips: &[Trip], successors: &[u16], _prices: &[V]) {
         let Ok(text) = &mut self.text else {
             return;
         };
-        if let Err(error) = write_answer(text, answer, trips, tables.successors) {
+        if let Err(error) = write_answer(text, answer, trips, successors) {
             self.text = Err(error);
         }
     }

@@ -12,7 +12,7 @@ use Rattle.runs.proofs.run.run.Goals as goal
 pub loop-call-init : goal.loop-call-init
 loop-call-init g c =
     let none = c.requires.trips in
-    (none, c.requires.limit, (λ i l. absurd (let e = ap length none in omega arith)), record { successors = refl; prices = refl; numbers = refl; values = refl; numbers_long = refl; values_long = refl }, told_none _ _ _ _ _ _ _ _)
+    (none, c.requires.limit, (λ i l. absurd (let e = ap length none in omega arith)), record { successors = refl; prices = refl; numbers = refl; values = refl; successors_long = refl; prices_long = refl; numbers_long = refl; values_long = refl }, told_none _ _ _ _ _ _ _ _)
 
 -- src/run.rt:28:5
 pub loop-call-preserved : goal.loop-call-preserved
@@ -33,7 +33,7 @@ loop-call-preserved g c =
       limit,
       o.served inv.2,
       same_since inv.3 o.same,
-      told_more _ _ _ _ _ _ _ i _ _ _ _ _ h inv.4 c.hear.ensures
+      told_more _ _ _ _ _ _ _ i _ _ _ _ _ h inv.4 c.tell.ensures
           (λ last es ep. right_at _ _ call last h _ _ _ _ _ _ _ _ inv.0 inv.1 inv.3.numbers_long inv.3.values_long (right_from _ _ _ _ _ _ last h es ep refl refl call inv.2 kn kv o.step))
           (c.trips.ensures.value ∙ trips),
     )
