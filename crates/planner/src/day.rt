@@ -38,8 +38,9 @@ impl<'a, R: Rule, T: Tariff> Costs for Day<'_, '_, 'a, R, T> {
     ghost net = { λ s. day_of (⟦<Terms<'a, R, T> as Pricing>⟧.terms s.terms.now) s.trips.now };
 
     fn link(&self, i: usize, j: usize) -> Option<T::Value> {
-        let from = self.trips.get(i)?;
+        // The head first: a search looks at many tails of one head, and they stand before it.
         let to = self.trips.get(j)?;
+        let from = self.trips.get(i)?;
         let cents = self.terms.rule.link_cents(from, to)?;
         Some(self.terms.tariff.link(cents))
     }

@@ -1,7 +1,7 @@
 -- What a reader still hands on. Assumes nothing.
 use Rattle.std.specs.Prelude.{◌≡◌, ℕ, List, [], ◌∷◌, true, false, Some, None, Ok, Err, Option}
 use Rattle.tape.specs.declared.reader.Place.{Place}
-use Rattle.tape.specs.declared.reader.Place.TheVariants.{Overlong, At, Over}
+use Rattle.tape.specs.declared.reader.Place.TheVariants.{Overlong, At}
 use Rattle.tape.specs.declared.reader.TapeReader.{TapeReader}
 use Rattle.tape.specs.Reading.{Item, to_hand_on}
 
@@ -9,7 +9,6 @@ use Rattle.tape.specs.Reading.{Item, to_hand_on}
 abbrev pub from_place : List ℕ → Place → List Item
 from_place tape Overlong = to_hand_on true tape 0
 from_place tape (At at) = to_hand_on false tape at
-from_place tape Over = []
 
 -- what a reader still hands on
 abbrev pub left : TapeReader → List Item

@@ -1,5 +1,5 @@
 //! A reader of a tape.
-ghost use Rattle.std.specs.Prelude.{◌≡◌, ◌<◌, [], ◌∷◌, length, Ok, Err, MatchResult, MatchOption};
+ghost use Rattle.std.specs.Prelude.{◌≡◌, ◌<◌, [], ◌∷◌, length, Ok, Err, MatchResult};
 ghost use Rattle.std.specs.Iterator.{item_count};
 ghost use Rattle.tape.specs.Reading.{too_long, to_come, to_hand_on, all_of};
 ghost use Rattle.tape.specs.Readers.{left, Next};
@@ -14,10 +14,8 @@ use faults::{Fault, Layer, MOST_BYTES, Refusal};
 enum Place {
     /// The fault that the tape is too long.
     Overlong,
-    /// The command that begins at this offset; nothing at the tape's length.
+    /// The command that begins at this offset; nothing at the tape's length, after the last command or a fault.
     At(usize),
-    /// Nothing, after a fault.
-    Over,
 }
 
 /// A reader that hands on the commands of a tape one by one, up to the first fault, and then that
@@ -34,11 +32,11 @@ fn command_at(tape: &[u8], at: usize) -> Result<(Command, usize), Fault>
     ensures { MatchResult result (λ p. to_come tape.now at ≡ Ok p.0 ∷ to_come tape.now p.1) (λ f. to_come tape.now at ≡ Err f ∷ []) }
 {
     let kind = Kind::try_from(tape[at]).map_err(|refusal| Layer::Tape.fault(refusal, at))?;
-    let next = at + 1 + kind.width();
-    let operands = tape
-        .get(at + 1..next)
+    let width = kind.width();
+    let operands = tape[at + 1..]
+        .get(..width)
         .ok_or_else(|| Layer::Tape.fault(Refusal::OperandsCutShort, at))?;
-    Ok((kind.with_operands(operands), next))
+    Ok((kind.with_operands(operands), at + 1 + width))
 }
 
 impl<'a> TapeReader<'a> {
@@ -63,19 +61,6 @@ impl<'a> TapeReader<'a> {
     {
         TapeReader::from_offset(tape, 0)
     }
-
-    /// The next command and where the one after it begins, or the fault that ends the tape.
-    fn coming(&self) -> Option<Result<(Command, usize), Fault>>
-        ensures { MatchOption result
-            (left self.now ≡ [])
-            (λ r. MatchResult r (λ p. left self.now ≡ Ok p.0 ∷ to_come self.now.tape.now p.1) (λ f. left self.now ≡ Err f ∷ [])) }
-    {
-        match self.place {
-            Place::Overlong => Some(Err(Layer::Tape.fault(Refusal::InputTooLong, 0))),
-            Place::At(at) if at < self.tape.len() => Some(command_at(self.tape, at)),
-            Place::At(_) | Place::Over => None,
-        }
-    }
 }
 
 impl Iterator for TapeReader<'_> {
@@ -87,14 +72,22 @@ impl Iterator for TapeReader<'_> {
 
     /// The next command, or the fault that ends the tape; None at the end and after a fault.
     fn next(&mut self) -> Option<Result<Command, Fault>> {
-        match self.coming()? {
-            Ok((command, next)) => {
-                self.place = Place::At(next);
-                Some(Ok(command))
-            }
-            Err(fault) => {
-                self.place = Place::Over;
-                Some(Err(fault))
+        let end = Place::At(self.tape.len());
+        match self.place {
+            Place::At(at) if at < self.tape.len() => match command_at(self.tape, at) {
+                Ok((command, next)) => {
+                    self.place = Place::At(next);
+                    Some(Ok(command))
+                }
+                Err(fault) => {
+                    self.place = end;
+                    Some(Err(fault))
+                }
+            },
+            Place::At(_) => None,
+            Place::Overlong => {
+                self.place = end;
+                Some(Err(Layer::Tape.fault(Refusal::InputTooLong, 0)))
             }
         }
     }
