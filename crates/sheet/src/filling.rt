@@ -14,9 +14,8 @@ pub struct Filling {
     pub fault: Option<Fault>,
 }
 
-/// Reads a whole sheet into a table, from its first entry on. A table shorter than the sheet's records
-/// is refused as a sheet with too many of them; the entries past the records stay as they were.
-pub fn fill_sheet<K: SheetKind>(kind: &K, sheet: &[u8], table: &mut [K::Record]) -> Filling
+/// What `fill_sheet` does. A step of its own, so that what `fill_sheet` promises of a whole sheet is proved of its call.
+fn fill_table<K: SheetKind>(kind: &K, sheet: &[u8], table: &mut [K::Record]) -> Filling
     ensures { Fills (K.SheetKind.rules kind.now) sheet.now table.old result.count result.fault table.new }
 {
     let room = kind.most().min(table.len());
@@ -26,4 +25,12 @@ pub fn fill_sheet<K: SheetKind>(kind: &K, sheet: &[u8], table: &mut [K::Record])
         count: front.count,
         fault,
     }
+}
+
+/// Reads a whole sheet into a table, from its first entry on. A table shorter than the sheet's records
+/// is refused as a sheet with too many of them; the entries past the records stay as they were.
+pub fn fill_sheet<K: SheetKind>(kind: &K, sheet: &[u8], table: &mut [K::Record]) -> Filling
+    ensures { Fills (K.SheetKind.rules kind.now) sheet.now table.old result.count result.fault table.new }
+{
+    fill_table(kind, sheet, table)
 }

@@ -1,6 +1,6 @@
 use Rattle.std.proofs.Common.{min, length, ap, ◌∙◌, rules}
 use Rattle.sheet.proofs.Taken.{filled}
-use Rattle.sheet.proofs.filling.fill_sheet.Goals as goal
+use Rattle.sheet.proofs.filling.fill_table.Goals as goal
 
 pub returns : goal.returns
 returns g c =
