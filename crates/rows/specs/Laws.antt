@@ -53,6 +53,10 @@ CmpTellsStanding = (xs ys : List ℤ) → Standing xs ys (slice_cmp int_cmp xs y
 abbrev pub PartialCmpTellsStanding : Type 0
 PartialCmpTellsStanding = (xs ys : List ℤ) → IsSomeAnd (slice_partial_cmp (λ x y. Some (int_cmp x y)) xs ys) (Standing xs ys)
 
+-- What `partial_cmp` answers, place by place, is what `cmp` answers.
+abbrev pub PartialCmpIsCmp : Type 0
+PartialCmpIsCmp = (xs ys : List ℤ) → slice_partial_cmp (λ x y. Some (int_cmp x y)) xs ys ≡ Some (slice_cmp int_cmp xs ys)
+
 -- What `==` answers, place by place, says whether two rows are the same.
 abbrev pub EqTellsSame : Type 0
 EqTellsSame = (xs ys : List ℤ) → Decides (pointwise int_eq xs ys) (xs ≡ ys)

@@ -14,3 +14,6 @@ partly_prop xs ys o = IsSomeAnd-prop o (Standing xs ys) (standing_prop xs ys)
 
 pub decides_prop : (xs ys : List ℤ) (same : Bool) → IsProp (Decides same (xs ≡ ys))
 decides_prop xs ys same = hlevel props
+
+pub answer_prop : (o p : Option Ordering) → IsProp (o ≡ p)
+answer_prop o p = hlevel props

@@ -2,8 +2,8 @@
 ghost use Rattle.std.specs.Prelude.{◌≡◌, Some, length};
 ghost use Rattle.std.specs.Cmp.Lexicographic.{pointwise, slice_cmp};
 ghost use Rattle.std.specs.Ordering.{int_cmp, int_eq};
-ghost use Rattle.rows.specs.Laws.{RowLaws, CmpTellsStanding, PartialCmpTellsStanding, EqTellsSame};
-ghost use Rattle.rows.specs.Props.{standing_prop, partly_prop, decides_prop};
+ghost use Rattle.rows.specs.Laws.{RowLaws, CmpTellsStanding, PartialCmpTellsStanding, PartialCmpIsCmp, EqTellsSame};
+ghost use Rattle.rows.specs.Props.{standing_prop, partly_prop, answer_prop, decides_prop};
 ghost use Rattle.rows.specs.Places.{kept};
 
 use crate::places::bounded;
@@ -16,6 +16,7 @@ pub struct Row<const N: usize> {
     ghost near: { kept places ≡ places },
     ghost stands: { CmpTellsStanding } by { Prim.hlevel standing_prop },
     ghost stands_partly: { PartialCmpTellsStanding } by { Prim.hlevel partly_prop },
+    ghost partly: { PartialCmpIsCmp } by { Prim.hlevel answer_prop },
     ghost same: { EqTellsSame } by { Prim.hlevel decides_prop },
 }
 

@@ -1,4 +1,6 @@
-ghost use Rattle.std.specs.Prelude.{◌≡◌, [], ◌∷◌, pos, neg_ℤ, Decides};
+ghost use Rattle.std.specs.Prelude.{◌≡◌, [], ◌∷◌, pos, neg_ℤ, Some, Decides};
+ghost use Rattle.std.specs.Cmp.Lexicographic.{slice_cmp};
+ghost use Rattle.std.specs.Ordering.{int_cmp, is_lt};
 ghost use Rattle.std.specs.Option.{IsSomeAnd};
 ghost use Rattle.rows.specs.Places.{Standing};
 ghost use Rattle.tariffs.specs.Charges.{capped};
@@ -82,9 +84,17 @@ fn standing(one: &Row<4>, other: &Row<4>) -> Ordering
     one.cmp(other)
 }
 
+/// Whether a row comes before another.
+fn is_before(one: &Row<4>, other: &Row<4>) -> bool
+    ensures { result ≡ is_lt (slice_cmp int_cmp one.now.places other.now.places) }
+{
+    *one < *other
+}
+
 /// How two rows stand, as `<` asks.
 fn partial_standing(one: &Row<4>, other: &Row<4>) -> Option<Ordering>
-    ensures { IsSomeAnd result (Standing one.now.places other.now.places) }
+    ensures value { result ≡ Some (slice_cmp int_cmp one.now.places other.now.places) }
+    ensures stands { IsSomeAnd result (Standing one.now.places other.now.places) }
 {
     one.partial_cmp(other)
 }
@@ -94,6 +104,6 @@ fn answers_are_compared(rt: HostRuntime) {
     let short = PaidBack.link(50);
     let long = PaidBack.link(70);
     assert!(rt; are_same(&short, &short) && !are_same(&short, &long));
-    assert!(rt; standing(&short, &long).is_lt());
+    assert!(rt; standing(&short, &long).is_lt() && is_before(&short, &long));
     assert!(rt; partial_standing(&long, &short).is_some());
 }
