@@ -1,4 +1,4 @@
-//! Callers who lend four slices: each is said by itself, with what it holds afterwards.
+//! Callers that lend four slices: their contracts say of each slice what it holds afterwards.
 ghost use Rattle.std.specs.Prelude.{◌≡◌, length};
 ghost use Rattle.board.specs.Boards.{limit_of, trips_of};
 ghost use Rattle.plans.specs.Answers.{Answers};

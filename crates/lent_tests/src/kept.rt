@@ -1,4 +1,4 @@
-//! A caller who is lent the tables himself: each is as long after a plan as it was.
+//! A caller that is lent the tables: each is as long after a plan as it was.
 ghost use Rattle.std.specs.Prelude.{◌≡◌, ◌<◌, length};
 
 use board::Board;
@@ -8,7 +8,8 @@ use rows::Rowed;
 use rules::Rule;
 use tariffs::Tariff;
 
-/// Plans, and then clears the entry at a position of each table.
+/// Plans, and then clears the entry at a position of each table; whether there is a plan. Where some table has no such entry,
+/// nothing is done.
 pub fn plan_and_clear<'a, R: Rule, T: Tariff>(
     board: &Board,
     terms: &Terms<'a, R, T>,

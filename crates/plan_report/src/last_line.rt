@@ -22,12 +22,11 @@ fn next_place(i: usize) -> Result<usize, fmt::Error>
 }
 
 impl<V: Rowed> PlanLines<'_, '_, V> {
-    // By an index, since a row is asked for one place at a time: what stands for a row need not hold its places in a slice.
-
     /// The places of the cost, each after a space.
     fn put_cost<W: fmt::Write>(&self, f: &mut fmt::Formatter<W>) -> fmt::Result
         ensures { WritesOnOk W.Write.write_str_gives f.old result (places_text (V.Rowed.row self.now.cost)) f.new }
     {
+        // By an index, since a row is asked for one place at a time.
         let mut i = 0;
         while let Some(number) = self.cost.place(i) {
             put_place(f, number)?;

@@ -44,5 +44,6 @@ by_answer xs ys Greater e = sym (lt_is_below ys xs) ∙ ap is_lt (turned ys xs �
 pub standing_from_cmp : (xs ys : List ℤ) → Standing xs ys (slice_cmp int_cmp xs ys)
 standing_from_cmp xs ys = by_answer xs ys (slice_cmp int_cmp xs ys) refl
 
+-- and so does that of `partial_cmp`
 pub standing_from_partial_cmp : (xs ys : List ℤ) → IsSomeAnd (slice_partial_cmp (λ x y. Some (int_cmp x y)) xs ys) (Standing xs ys)
 standing_from_partial_cmp xs ys = subst (λ o. IsSomeAnd o (Standing xs ys)) (sym (partly_is xs ys)) (standing_from_cmp xs ys)

@@ -1,4 +1,4 @@
--- How two rows stand, and whether they are the same, has one proof at most, so that a row may hold it as a ghost field. Assumes nothing.
+-- Each of these statements about two rows has one proof at most, so that a row may hold it as a ghost field. Assumes nothing.
 use Rattle.std.proofs.Common.{◌≡◌, Bool, List, ℤ, Option, Decides, Ordering, Less, Equal, Greater}
 use Rattle.std.proofs.Props.{props}
 use Rattle.std.specs.Option.{IsSomeAnd, IsSomeAnd-prop}

@@ -15,6 +15,7 @@ use tariffs::Tariff;
 use trips::Trip;
 
 /// Lets the listener hear an answer, with the trips that stand and what the tables of successors and prices hold.
+// A step of its own: the checker reads no two fields of lent tables in one call where they may be written.
 fn tell<V, L: Listener<V>>(
     listener: &mut L,
     answer: &Answer<V>,

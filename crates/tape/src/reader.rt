@@ -14,7 +14,7 @@ use faults::{Fault, Layer, MOST_BYTES, Refusal};
 enum Place {
     /// The fault that the tape is too long.
     Overlong,
-    /// The command that begins at this offset; nothing at the tape's length, after the last command or a fault.
+    /// The command that begins at this offset; at the tape's length nothing, as after the last command or a fault.
     At(usize),
 }
 

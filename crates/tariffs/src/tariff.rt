@@ -23,8 +23,8 @@ pub trait Tariff {
     /// The row for coming home, from its cents.
     ghost homes: { Self → ℕ → List ℤ };
 
-    // No body here: that `PLACES` is the number of places of `Value` is asked of no tariff, so each answers for itself.
     /// How many places the rows have: each tariff answers with its `PLACES`.
+    // No body here: it would ask of every tariff that `PLACES` is the number of places of `Value`.
     fn row_length() -> usize
         ensures { result ≡ Self.Value.Rowed.count };
 

@@ -105,5 +105,5 @@ fn answers_are_compared(rt: HostRuntime) {
     let long = PaidBack.link(70);
     assert!(rt; are_same(&short, &short) && !are_same(&short, &long));
     assert!(rt; standing(&short, &long).is_lt() && is_before(&short, &long));
-    assert!(rt; partial_standing(&long, &short).is_some());
+    assert!(rt; partial_standing(&long, &short) == Some(Ordering::Greater));
 }
