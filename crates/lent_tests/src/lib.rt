@@ -1,8 +1,8 @@
-//! What callers know who lend tables to plan and to a run of calls.
+//! What callers know that lend tables to plan and to a run of calls.
 #![tactic(auto)]
 
 mod four;
-mod kept;
+mod in_place;
 
 pub use four::{plan_into, run_into};
-pub use kept::plan_and_clear;
+pub use in_place::plan_in_place;

@@ -10,7 +10,7 @@ module _ {X : Type 0} (xs : List X) (i : ℕ) where
   -- a place that was found is within the list
   place_within : (x : X) → Some x ≡ slice_get xs i → i < length xs
   place_within x e =
-      ⊎_elim (λ h. h) (λ past. let n = nth_past xs i past in let z : ◌≡◌ {A = ℕ} 0 1 = cc in absurd (omega arith)) (cases_lt i (length xs))
+      ⊎_elim (λ h. h) (λ past. let n = nth_past xs i past in cc) (cases_lt i (length xs))
 
   -- and is the first of those from there on
   place_more : (x : X) → Some x ≡ slice_get xs i → drop i xs ≡ x ∷ drop (i + 1) xs
@@ -24,7 +24,7 @@ module _ {X : Type 0} (xs : List X) (i : ℕ) where
 pub place_none : {X : Type 0} (xs : List X) (i : ℕ) → None ≡ slice_get xs i → drop i xs ≡ []
 place_none [] zero e = refl
 place_none [] (suc i) e = refl
-place_none (x ∷ xs) zero e = let z : ◌≡◌ {A = ℕ} 0 1 = cc in absurd (omega arith)
+place_none (x ∷ xs) zero e = cc
 place_none (x ∷ xs) (suc i) e = place_none xs i e
 
 -- the text of the places from i on, where the place at i was found

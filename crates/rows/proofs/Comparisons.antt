@@ -1,7 +1,6 @@
 -- The order of rows and what `cmp` and `==` answer at their places, place by place: each says the other. Assumes nothing.
-use Rattle.std.proofs.Common.{◌≡◌, Bool, Some, true, false, List, ◌∷◌, ℤ, ◌<ℤ◌, Decides, Ordering, Less, Equal, Greater, sym, refl, ap, ◌∙◌, subst, arith}
+use Rattle.std.proofs.Common.{◌≡◌, Bool, Some, true, false, List, ◌∷◌, ℤ, ◌<ℤ◌, Decides, Ordering, Less, Equal, Greater, sym, refl, ap, ◌∙◌, arith}
 use borrow.Author.Differences.{ints}
-use Rattle.std.specs.Option.{IsSomeAnd}
 use Rattle.std.specs.Ordering.{MatchOrdering, ordering_reverse, int_cmp, int_eq, is_lt, is_eq, is_some_and}
 use Rattle.std.specs.Cmp.{int_cmp_total}
 use Rattle.std.specs.Cmp.Lexicographic.{slice_cmp, slice_partial_cmp, lists_agrees, lists_total, lists_ties, pointwise}
@@ -43,7 +42,3 @@ by_answer xs ys Greater e = sym (lt_is_below ys xs) ∙ ap is_lt (turned ys xs �
 -- the answer of `cmp` says how two rows stand
 pub standing_from_cmp : (xs ys : List ℤ) → Standing xs ys (slice_cmp int_cmp xs ys)
 standing_from_cmp xs ys = by_answer xs ys (slice_cmp int_cmp xs ys) refl
-
--- and so does that of `partial_cmp`
-pub standing_from_partial_cmp : (xs ys : List ℤ) → IsSomeAnd (slice_partial_cmp (λ x y. Some (int_cmp x y)) xs ys) (Standing xs ys)
-standing_from_partial_cmp xs ys = subst (λ o. IsSomeAnd o (Standing xs ys)) (sym (partly_is xs ys)) (standing_from_cmp xs ys)

@@ -1,6 +1,5 @@
 -- What holds of all rows. Assumes nothing.
 use Rattle.std.specs.Prelude.{◌≡◌, ℕ, ◌+◌, ◌<◌, ◌≤◌, Some, List, length, ℤ, pos, ◌+ℤ◌, ◌*ℤ◌, neg_ℤ, ◌<ℤ◌, Decides, int_lt, slice_index_or}
-use Rattle.std.specs.Option.{IsSomeAnd}
 use Rattle.std.specs.Ordering.{int_cmp, int_eq}
 use Rattle.std.specs.Cmp.Lexicographic.{slice_cmp, slice_partial_cmp, pointwise}
 use Rattle.rows.specs.Places.{added, opposite, scaled, most, held, kept, Near, Small, below, Standing, weight, wide}
@@ -48,10 +47,6 @@ NearSumsExact = (p q : ℕ) (xs ys : List ℤ) → Small p xs → Small q ys →
 -- What `cmp` answers, place by place, says how two rows stand.
 abbrev pub CmpTellsStanding : Type 0
 CmpTellsStanding = (xs ys : List ℤ) → Standing xs ys (slice_cmp int_cmp xs ys)
-
--- What `partial_cmp` answers, place by place, is an answer, and says how two rows stand.
-abbrev pub PartialCmpTellsStanding : Type 0
-PartialCmpTellsStanding = (xs ys : List ℤ) → IsSomeAnd (slice_partial_cmp (λ x y. Some (int_cmp x y)) xs ys) (Standing xs ys)
 
 -- What `partial_cmp` answers, place by place, is what `cmp` answers.
 abbrev pub PartialCmpIsCmp : Type 0

@@ -2,8 +2,8 @@
 ghost use Rattle.std.specs.Prelude.{◌≡◌, Some, length};
 ghost use Rattle.std.specs.Cmp.Lexicographic.{pointwise, slice_cmp};
 ghost use Rattle.std.specs.Ordering.{int_cmp, int_eq};
-ghost use Rattle.rows.specs.Laws.{RowLaws, CmpTellsStanding, PartialCmpTellsStanding, PartialCmpIsCmp, EqTellsSame};
-ghost use Rattle.rows.specs.Props.{standing_prop, partly_prop, answer_prop, decides_prop};
+ghost use Rattle.rows.specs.Laws.{RowLaws, CmpTellsStanding, PartialCmpIsCmp, EqTellsSame};
+ghost use Rattle.rows.specs.Props.{standing_prop, answer_prop, decides_prop};
 ghost use Rattle.rows.specs.Places.{kept};
 
 use crate::places::bounded;
@@ -15,7 +15,6 @@ pub struct Row<const N: usize> {
     ghost long: { length places ≡ N },
     ghost near: { kept places ≡ places },
     ghost stands: { CmpTellsStanding } by { Prim.hlevel standing_prop },
-    ghost stands_partly: { PartialCmpTellsStanding } by { Prim.hlevel partly_prop },
     ghost partly: { PartialCmpIsCmp } by { Prim.hlevel answer_prop },
     ghost same: { EqTellsSame } by { Prim.hlevel decides_prop },
 }
@@ -26,7 +25,7 @@ impl<const N: usize> Row<N> {
     /// each, the row's weight; the weight adds up, turns and multiplies as the row does; and sums of rows
     /// that lie near enough are exact. `cmp`, `<` and `==` go by the places, the first that differs first,
     /// and so tell what that order and the places say.
-    #[tactic(auto, using(crate::proofs::Comparisons::partly_is, crate::proofs::Comparisons::standing_from_cmp, crate::proofs::Comparisons::standing_from_partial_cmp, crate::proofs::Comparisons::eq_decides))]
+    #[tactic(auto, using(crate::proofs::Comparisons::partly_is, crate::proofs::Comparisons::standing_from_cmp, crate::proofs::Comparisons::eq_decides))]
     pub fn new(places: [i64; N]) -> Row<N>
         ensures value { result.places ≡ kept places.entry }
         ensures laws { RowLaws }

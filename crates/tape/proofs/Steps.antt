@@ -17,7 +17,7 @@ front_is bs i w =
     let n : w - 0 ≡ w = omega arith in
     ap (λ m. take m (take (length bs - i) (drop i bs))) n ∙ ap (take w) (take_all (length bs - i) (drop i bs) (omega arith))
 
--- and so long as there is
+-- and where there is such a front, it lies within the list
 pub front_within : (bs : List ℕ) (i w : ℕ) → i ≤ length bs → w ≤ length (take (length bs - i) (drop i bs)) → i + w ≤ length bs
 front_within bs i w h e =
     let l = length-drop i bs in
